@@ -1,0 +1,43 @@
+-- Demand 2: each entry of the elimination of an accepted table is attained and not bettered.
+use Prim.Native.Nat.{ℕ, _<_, _+_, _*_}
+use native.Mathlib.Omega.{arith}
+use mathlib.Core.Path.{_≡_, refl}
+use mathlib.Core.List.{List}
+use lib.ListN.{getD}
+use Rattle.semiring.specs.declared.Algebra.{Algebra}
+use Rattle.semiring.specs.declared.Named.{Named}
+use Rattle.semiring.specs.Named.{namedOf}
+use Rattle.semiring.specs.declared.Named.the-variants.{Known, Unknown}
+use Rattle.semiring.proofs.Order.{not-bettered}
+use Rattle.closure.specs.Elimination.{closure, eliminated}
+use Rattle.closure.specs.Tests.{eliminationTests, resultAfter}
+use Rattle.closure.specs.Demand.{Best, Demand2, Demand2-result}
+use Rattle.closure.proofs.Holds.{rowByRow-holds}
+use Rattle.closure.proofs.Ways.{unbettered}
+use Rattle.closure.proofs.Simple.{attained-simple}
+use Rattle.closure.proofs.Accepted.{Accepted, accepted, accepted-links, accepted-result}
+
+pub demand2 : Demand2
+unfolding closure
+demand2 a n w r e i j hi hj =
+    let input : Accepted a n w r = accepted e in
+    let links = accepted-links input in
+    record {
+      attained = attained-simple links hi hj;
+      unbettered = λ l way. not-bettered (unbettered links way);
+    }
+
+best-result : (d : Named) (n : ℕ) (w r : List ℕ) → eliminationTests d n w r ≡ 0
+    → (a : Algebra) × (d ≡ Known a)
+    × ((i j : ℕ) → i < n → j < n → Best a n w i j (getD (resultAfter d n w r) (i * n + j) 0))
+unfolding eliminated
+best-result Unknown n w r e = absurd (omega arith)
+best-result (Known a) n w r e = (
+  a,
+  refl,
+  λ i j hi hj.
+      rw (accepted-result a n w r e, rowByRow-holds n (closure a n w) .word i j hi hj) (demand2 a n w r e i j hi hj),
+)
+
+pub demand2-result : Demand2-result
+demand2-result number = best-result (namedOf number)

@@ -1,0 +1,9 @@
+pub mod Above
+pub mod Accepted
+pub mod Cards
+pub mod Demand
+pub mod Holds
+pub mod Links
+pub mod Passes
+pub mod Simple
+pub mod Ways

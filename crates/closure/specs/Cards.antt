@@ -1,0 +1,35 @@
+-- Document 01, "Bench cards": B1 to B7, and one more whose word needs the last pass.
+use Prim.Native.Nat.{ℕ}
+use mathlib.Core.Path.{_≡_}
+use mathlib.Core.List.{List, [], _∷_}
+use Rattle.semiring.specs.declared.Algebra.the-variants.{Reach, Distance, Steepest}
+use Rattle.closure.specs.Elimination.{closure, eliminated}
+
+-- none, outside reach
+abbrev pub none : ℕ
+none = 65535
+
+-- "links 0→1 4, 0→2 9, 1→2 3, 2→0 1", and as reach
+unfoldable pub links3 : List ℕ
+links3 = 0 ∷ 4 ∷ 9 ∷ none ∷ 0 ∷ 3 ∷ 1 ∷ none ∷ 0 ∷ []
+
+unfoldable pub reach3 : List ℕ
+reach3 = 0 ∷ 1 ∷ 1 ∷ 0 ∷ 0 ∷ 1 ∷ 1 ∷ 0 ∷ 0 ∷ []
+
+-- 0→1 of 40000 and 1→2 of the given length
+unfoldable pub long3 : ℕ → List ℕ
+long3 x = 0 ∷ 40000 ∷ none ∷ none ∷ 0 ∷ x ∷ none ∷ none ∷ 0 ∷ []
+
+-- 0→1 only through the last point, 2
+unfoldable pub last3 : List ℕ
+last3 = 0 ∷ 9 ∷ 1 ∷ none ∷ 0 ∷ none ∷ none ∷ 2 ∷ 0 ∷ []
+
+pub record Cards : Type 0 where
+  pub B1 : eliminated Distance 1 (7 ∷ []) ≡ 0 ∷ []
+  pub B2 : eliminated Reach 1 (0 ∷ []) ≡ 1 ∷ []
+  pub B3 : eliminated Distance 3 links3 ≡ 0 ∷ 4 ∷ 7 ∷ 4 ∷ 0 ∷ 3 ∷ 1 ∷ 5 ∷ 0 ∷ []
+  pub B4 : eliminated Steepest 3 links3 ≡ 0 ∷ 4 ∷ 4 ∷ 3 ∷ 0 ∷ 3 ∷ 1 ∷ 4 ∷ 0 ∷ []
+  pub B5 : eliminated Reach 3 reach3 ≡ 1 ∷ 1 ∷ 1 ∷ 1 ∷ 1 ∷ 1 ∷ 1 ∷ 1 ∷ 1 ∷ []
+  pub B6 : closure Distance 3 (long3 25534) 0 2 ≡ 65534
+  pub B7 : closure Distance 3 (long3 25535) 0 2 ≡ none
+  pub last-pass : closure Distance 3 last3 0 1 ≡ 3

@@ -1,0 +1,6 @@
+pub mod Table
+pub mod Elimination
+pub mod Ways
+pub mod Tests
+pub mod Demand
+pub mod Cards

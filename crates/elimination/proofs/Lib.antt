@@ -1,0 +1,4 @@
+pub mod Diagonal
+pub mod Geometry
+pub mod Rows
+pub mod Through

@@ -1,0 +1,10 @@
+// The elimination of a table in the memory lent for the result: the table is laid out with its diagonal set, then
+// closed in place, two points at a time.
+mod layout;
+mod passes;
+mod relax;
+mod words;
+
+pub use layout::lay_out;
+pub use passes::close;
+pub use words::has_word_above;

@@ -1,0 +1,3 @@
+pub mod ListOf
+pub mod Part
+pub mod Walk

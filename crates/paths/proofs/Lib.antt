@@ -1,0 +1,2 @@
+pub mod ByteCall
+pub mod Words

@@ -1,0 +1,68 @@
+-- Demand 3.
+use Prim.Native.Nat.{ℕ, _*_, zero-le}
+use native.Mathlib.Nat.{zero-add}
+use native.Mathlib.Omega.{arith}
+use mathlib.Core.Path.{_≡_, ap, _∙_}
+use mathlib.Core.List.{List}
+use lib.ListN.{length-replicate}
+use Rattle.semiring.specs.declared.Algebra.{Algebra}
+use Rattle.semiring.specs.declared.Named.the-variants.{Known}
+use Rattle.semiring.specs.Named.{namedOf}
+use Rattle.systolic.specs.Jobs.{Jobs, count}
+use Rattle.systolic.specs.Tick.{Array, ticks}
+use Rattle.systolic.specs.State.{stateWords}
+use Rattle.systolic.specs.Start.{started, zeroPlanes}
+use Rattle.systolic.specs.Demand.{Call, Runs, runs, jobsOf, Claim, Demand3}
+use Rattle.systolic.proofs.Places.{entry-find}
+use Rattle.systolic.proofs.Ticks.{Sized, Reached, reached}
+use Rattle.systolic.proofs.Started.{Started, started-by, started-fit}
+use Rattle.systolic.proofs.Runs.{After, runs-after}
+
+pub zero-sized : (order : ℕ) → Sized order (zeroPlanes order)
+zero-sized order =
+    let e = length-replicate {A = ℕ} (order * order) 0 in
+    record { c = e; a = e; b = e }
+
+-- What start left, with the results lent to the first run.
+abbrev fresh : ℕ → List ℕ → Array
+fresh order results = record { planes = zeroPlanes order; results = results }
+
+claimed : {J : Jobs} {algebra : ℕ} {calls : List Call} {results : List ℕ} {after : Runs}
+    → ((T : ℕ) → Reached J results T (ticks J 0 T (fresh (J .order) results)))
+    → After J algebra (fresh (J .order) results) 0 calls after → Claim J algebra calls results after
+unfolding ticks
+claimed {J} {algebra} {calls} {results} {after} reached run =
+    let state : after .state
+    ≡ stateWords (J .order) algebra (count J) (after .made) (ticks J 0 (after .made) (fresh (J .order) results) .planes) =
+    rw (zero-add (after .made)) at (run .state) in
+    let words : after .results ≡ ticks J 0 (after .made) (fresh (J .order) results) .results =
+    rw (zero-add (after .made)) at (run .results) in
+    record {
+      refusals = run .numbers;
+      made = omega (arith, run .made);
+      tick = rw state;
+      state = state;
+      entry = λ fits q i k hq hi hk.
+          rw words (reached (after .made) .entry fits (record { job = hq; row = hi; column = hk }));
+      length-kept = rw words (reached (after .made) .length-kept);
+      all-entries = λ fits p h.
+          let (q, i, k, at, e) = entry-find {J = J} p (omega arith) in
+          (q, i, k, at .job, at .row, at .column, e);
+      unfit = λ d.
+          let none : after .made ≡ 0 = omega (arith, run .made, run .unfit d) in
+          words ∙ ap (λ (T : ℕ). ticks J 0 T (fresh (J .order) results) .results) none;
+    }
+
+module _ {a : Algebra} {order : ℕ} {sizes weights : List ℕ} (start : Started a order sizes weights) (algebra : ℕ)
+    (named : namedOf algebra ≡ Known a) (calls : List Call) (results : List ℕ) where
+  pub started-claim :
+      Claim (jobsOf a order sizes weights) algebra calls results (runs sizes weights calls (started algebra order sizes) results)
+  unfolding ticks
+  started-claim =
+      claimed (λ T. reached (started-fit start) T (fresh order results))
+      (runs-after start algebra named (fresh order results) (zero-sized order) calls 0 zero-le)
+
+pub demand3 : Demand3
+demand3 algebra order sizes weights state e =
+    let (a, named, start) = started-by (namedOf algebra) order sizes weights state e in
+    (a, named, started-claim start algebra named)

@@ -1,0 +1,13 @@
+pub mod Cards
+pub mod Digits
+pub mod Registers
+pub mod Padding
+pub mod Invariant
+pub mod Places
+pub mod Emission
+pub mod Ticks
+pub mod Started
+pub mod State
+pub mod Runs
+pub mod Demand
+pub mod Corollaries

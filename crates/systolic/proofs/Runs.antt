@@ -1,0 +1,225 @@
+-- A list of runs: each one is accepted or refused by its scratch and its results alone, and what the accepted ones leave is as many
+-- ticks as they made together.
+use Prim.Native.Nat.{ℕ, _+_, _-_, _*_, _≤_, min}
+use native.Mathlib.Nat.{zero-add, add-zero}
+use native.Mathlib.Omega.{arith}
+use native.Mathlib.Decide.{ℕ-discrete}
+use mathlib.Core.Path.{_≡_, refl, sym, ap, _∙_}
+use mathlib.Core.List.{List, [], _∷_}
+use mathlib.Core.Bool.{Bool, true, false, cond, not}
+use lib.ListN.{length, replicate}
+use lib.Dec.{eqb}
+use borrow.Author.Tests.{le-ltb, eq-eqb, ne-eqb}
+use Rattle.semiring.specs.declared.Algebra.{Algebra}
+use Rattle.semiring.specs.declared.Named.the-variants.{Known}
+use Rattle.semiring.specs.Named.{namedOf}
+use Rattle.closure.specs.Tests.{refuse}
+use Rattle.systolic.specs.Jobs.{Jobs, count, wordsOf}
+use Rattle.systolic.specs.Cell.{Planes}
+use Rattle.systolic.specs.Tick.{Array, ticks}
+use Rattle.systolic.specs.State.{stateWords, stateLength, total}
+use Rattle.systolic.specs.Run.{Ran, badState, runTests, ranOn, refusedRun, ranBy, ran}
+use Rattle.systolic.specs.Demand.{Call, Runs, runs, numbersDue, jobsOf}
+use Rattle.systolic.proofs.Ticks.{Sized, ticks-add, ticks-sized, reached}
+use Rattle.systolic.proofs.Started.{Started, started-fit}
+use Rattle.systolic.proofs.State.{stateWords-length, planesOf-stateWords}
+
+-- The number of a run on jobs that were started: only the scratch and the results can be unfit.
+abbrev pub numberDue : ℕ → List ℕ → List ℕ → List ℕ → ℕ
+numberDue order sizes scratch results =
+    refuse (not (eqb (length scratch) (2 * (order * order)))) 12
+    (refuse (not (eqb (length results) (wordsOf sizes))) 4
+    0)
+
+-- What an accepted run answers and leaves that brings the array to m.
+abbrev pub acceptedRun : ℕ → ℕ → ℕ → ℕ → ℕ → List ℕ → Array → Ran
+acceptedRun order algebra count tick made scratch m = record {
+  number = 0;
+  made = made;
+  state = stateWords order algebra count tick (m .planes);
+  results = m .results;
+  scratch = replicate (length scratch) 0;
+}
+
+module _ {a : Algebra} {order : ℕ} {sizes weights : List ℕ} (start : Started a order sizes weights)
+    (algebra : ℕ) (named : namedOf algebra ≡ Known a) (T : ℕ) (r : Planes) (sized : Sized order r)
+    (within : T ≤ total order (length sizes)) where
+  state-good : badState (stateWords order algebra (length sizes) T r) ≡ false
+  state-good =
+      let words : List ℕ = stateWords order algebra (length sizes) T r in
+      let long = le-ltb (length words) 4 (omega arith) in
+      let fits = eq-eqb (length words) (stateLength order) (stateWords-length order algebra (length sizes) T r sized) in
+      rw (long, start .order-inside, start .count-inside, fits, le-ltb (total order (length sizes)) T within)
+
+  run-tests : (scratch results : List ℕ)
+      → runTests (Known a) (stateWords order algebra (length sizes) T r) sizes weights scratch results ≡ numberDue order sizes scratch results
+  run-tests scratch results =
+      let jobs = eq-eqb (length sizes) (length sizes) refl in
+      let fits = eq-eqb (length weights) (wordsOf sizes) (start .length-fits) in
+      rw (state-good, jobs, start .sizes-inside, fits, start .none-above)
+
+  -- A run that is accepted, and one that is refused.
+  pub run-accepted : (allowance : ℕ) (scratch results : List ℕ) → numberDue order sizes scratch results ≡ 0
+      → ran (stateWords order algebra (length sizes) T r) sizes weights allowance scratch results
+      ≡ (let made = min allowance (total order (length sizes) - T) in
+      acceptedRun order algebra (length sizes) (T + made) made scratch
+      (ticks (jobsOf a order sizes weights) T made (record { planes = r; results = results })))
+  unfolding ranBy ranOn
+  run-accepted allowance scratch results e =
+      rw (named, run-tests scratch results, e, planesOf-stateWords order algebra (length sizes) T r sized)
+
+  pub run-refused : (allowance : ℕ) (scratch results : List ℕ) → (numberDue order sizes scratch results ≡ 0 → ⊥)
+      → ran (stateWords order algebra (length sizes) T r) sizes weights allowance scratch results
+      ≡ refusedRun (numberDue order sizes scratch results) (stateWords order algebra (length sizes) T r) scratch results
+  unfolding ranBy
+  run-refused allowance scratch results d =
+      rw (named, run-tests scratch results, ne-eqb (numberDue order sizes scratch results) 0 d)
+
+-- A list's first run and the rest.
+abbrev joined : Call → Ran → Runs → Runs
+joined call one rest = record {
+  numbers = one .number ∷ rest .numbers;
+  allowed = cond (eqb (one .number) 0) (call .allowance) 0 + rest .allowed;
+  made = one .made + rest .made;
+  state = rest .state;
+  results = rest .results;
+}
+
+runs-cons : (sizes weights : List ℕ) (call : Call) (calls : List Call) (state results : List ℕ) {one : Ran}
+    → ran state sizes weights (call .allowance) (call .scratch) results ≡ one
+    → runs sizes weights (call ∷ calls) state results ≡ joined call one (runs sizes weights calls (one .state) (one .results))
+unfolding runs
+runs-cons sizes weights call calls state results =
+    ap (λ (one : Ran). joined call one (runs sizes weights calls (one .state) (one .results)))
+
+-- What a list of runs leaves that begins after T ticks from the array x.
+pub record After (J : Jobs) (algebra : ℕ) (x : Array) (T : ℕ) (calls : List Call) (after : Runs) : Type 0 where
+  pub numbers : after .numbers ≡ numbersDue (J .order) (J .sizes) calls (x .results)
+  pub made : T + after .made ≡ min (T + after .allowed) (total (J .order) (count J))
+  pub state :
+      after .state
+      ≡ stateWords (J .order) algebra (count J) (T + after .made) (ticks J 0 (T + after .made) x .planes)
+  pub results : after .results ≡ ticks J 0 (T + after .made) x .results
+  pub unfit : (length (x .results) ≡ wordsOf (J .sizes) → ⊥) → after .allowed ≡ 0
+
+-- Where the results do not fit, a run is refused.
+due-unfit : (order : ℕ) (sizes scratch results : List ℕ) → (length results ≡ wordsOf sizes → ⊥)
+    → numberDue order sizes scratch results ≡ 0 → ⊥
+due-unfit order sizes scratch results d e =
+    go (not (eqb (length scratch) (2 * (order * order)))) (rw (ne-eqb (length results) (wordsOf sizes) d) at e)
+  where
+    go : (b : Bool) → refuse b 12 4 ≡ 0 → ⊥
+    go true f = omega arith
+    go false f = omega arith
+
+-- One run in front of a list: the ticks it may make, where it is accepted.
+module _ {J : Jobs} {algebra : ℕ} {x : Array} {T : ℕ} (call : Call) {calls : List Call} (one : Ran) {rest : Runs}
+    (within : T ≤ total (J .order) (count J))
+    (number : one .number ≡ numberDue (J .order) (J .sizes) (call .scratch) (x .results))
+    (after : After J algebra x (T + one .made) calls rest) where
+  after-one :
+      T + (one .made + rest .made)
+      ≡ min (T + (cond (eqb (one .number) 0) (call .allowance) 0 + rest .allowed)) (total (J .order) (count J))
+      → After J algebra x T (call ∷ calls) (joined call one rest)
+  unfolding numbersDue
+  after-one made =
+      let e : T + (one .made + rest .made) ≡ T + one .made + rest .made = omega arith in
+      record {
+        numbers = rw (number, after .numbers);
+        made = made;
+        state = rw e (after .state);
+        results = rw e (after .results);
+        unfit = λ d.
+            let f = due-unfit (J .order) (J .sizes) (call .scratch) (x .results) d in
+            rw (number, ne-eqb (numberDue (J .order) (J .sizes) (call .scratch) (x .results)) 0 f) (omega (arith, after .unfit d));
+      }
+
+  after-accepted : one .number ≡ 0 → one .made ≡ min (call .allowance) (total (J .order) (count J) - T)
+      → After J algebra x T (call ∷ calls) (joined call one rest)
+  after-accepted e made = after-one (rw (eq-eqb (one .number) 0 e) (omega (arith, after .made)))
+
+  after-refused : (one .number ≡ 0 → ⊥) → one .made ≡ 0 → After J algebra x T (call ∷ calls) (joined call one rest)
+  after-refused d made = after-one (rw (ne-eqb (one .number) 0 d) (omega (arith, after .made)))
+
+module _ {a : Algebra} {order : ℕ} {sizes weights : List ℕ} (start : Started a order sizes weights)
+    (algebra : ℕ) (named : namedOf algebra ≡ Known a) (x : Array) (sized : Sized order (x .planes)) where
+  -- the array, the state and the results after T ticks
+  abbrev arrayAt : ℕ → Array
+  arrayAt T = ticks (jobsOf a order sizes weights) 0 T x
+
+  abbrev stateAt : ℕ → List ℕ
+  stateAt T = stateWords order algebra (length sizes) T (arrayAt T .planes)
+
+  abbrev resultsAt : ℕ → List ℕ
+  resultsAt T = arrayAt T .results
+
+  -- a list of runs that begins there
+  abbrev RunsFrom : List Call → ℕ → Type 0
+  RunsFrom calls T =
+      After (jobsOf a order sizes weights) algebra x T calls (runs sizes weights calls (stateAt T) (resultsAt T))
+
+  sized-at : (T : ℕ) → Sized order (arrayAt T .planes)
+  sized-at T = ticks-sized (jobsOf a order sizes weights) 0 T x sized
+
+  runs-none : (T : ℕ) → T ≤ total order (length sizes) → RunsFrom [] T
+  unfolding runs numbersDue
+  runs-none T within = record {
+    numbers = refl;
+    made = omega arith;
+    state = rw (add-zero T);
+    results = rw (add-zero T);
+    unfit = λ d. refl;
+  }
+
+  module _ (call : Call) (T : ℕ) (within : T ≤ total order (length sizes)) where
+    abbrev due : ℕ
+    due = numberDue order sizes (call .scratch) (x .results)
+
+    -- Ticks keep the length of the results, so the number due is that of the first results.
+    due-kept : numberDue order sizes (call .scratch) (resultsAt T) ≡ due
+    due-kept = rw (reached (started-fit start) T x .length-kept)
+
+    -- what the run answers and leaves, accepted and refused
+    abbrev taken : ℕ → Ran
+    taken made = acceptedRun order algebra (length sizes) (T + made) made (call .scratch) (arrayAt (T + made))
+
+    abbrev turned : Ran
+    turned = record { number = due; made = 0; state = stateAt T; results = resultsAt T; scratch = call .scratch }
+
+    more : (made : ℕ) → ticks (jobsOf a order sizes weights) T made (arrayAt T) ≡ arrayAt (T + made)
+    more made = rw (ticks-add (jobsOf a order sizes weights) 0 T made x, zero-add T)
+
+    run-taken : due ≡ 0
+        → ran (stateAt T) sizes weights (call .allowance) (call .scratch) (resultsAt T)
+        ≡ taken (min (call .allowance) (total order (length sizes) - T))
+    run-taken e =
+        let made : ℕ = min (call .allowance) (total order (length sizes) - T) in
+        run-accepted start algebra named T (arrayAt T .planes) (sized-at T) within (call .allowance) (call .scratch) (resultsAt T)
+        (due-kept ∙ e)
+        ∙ ap (acceptedRun order algebra (length sizes) (T + made) made (call .scratch)) (more made)
+
+    run-turned : (due ≡ 0 → ⊥) → ran (stateAt T) sizes weights (call .allowance) (call .scratch) (resultsAt T) ≡ turned
+    unfolding refusedRun
+    run-turned d =
+        rw (← due-kept)
+        (run-refused start algebra named T (arrayAt T .planes) (sized-at T) within (call .allowance) (call .scratch) (resultsAt T)
+        (λ e. d (sym due-kept ∙ e)))
+
+    runs-one : (calls : List Call) → ((U : ℕ) → U ≤ total order (length sizes) → RunsFrom calls U) → Dec (due ≡ 0)
+        → RunsFrom (call ∷ calls) T
+    runs-one calls f (yes e) =
+        let made : ℕ = min (call .allowance) (total order (length sizes) - T) in
+        rw (runs-cons sizes weights call calls (stateAt T) (resultsAt T) (run-taken e))
+        (after-accepted call (taken made) within (sym e) (f (T + made) (omega arith)) refl refl)
+    runs-one calls f (no d) =
+        rw (runs-cons sizes weights call calls (stateAt T) (resultsAt T) (run-turned d))
+        (after-refused call turned within refl (rw (add-zero T) (f T within)) d refl)
+
+  pub runs-after : (calls : List Call) (T : ℕ) → T ≤ total order (length sizes)
+      → After (jobsOf a order sizes weights) algebra x T calls
+      (runs sizes weights calls
+      (stateWords order algebra (length sizes) T (ticks (jobsOf a order sizes weights) 0 T x .planes))
+      (ticks (jobsOf a order sizes weights) 0 T x .results))
+  runs-after [] T within = runs-none T within
+  runs-after (call ∷ calls) T within =
+      runs-one call T within calls (runs-after calls) (ℕ-discrete (numberDue order sizes (call .scratch) (x .results)) 0)

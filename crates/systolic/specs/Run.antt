@@ -1,0 +1,81 @@
+-- Document 01: Run, its tests, the ticks that it makes, and state, results and scratch after it.
+use Prim.Native.Nat.{ℕ, _+_, _-_, _*_, min}
+use mathlib.Core.List.{List}
+use mathlib.Core.Bool.{Bool, cond, not, _||_}
+use lib.ListN.{length, replicate}
+use lib.Dec.{eqb, ltb}
+use Rattle.semiring.specs.Algebra.{topOf}
+use Rattle.semiring.specs.Named.{namedOf}
+use Rattle.semiring.specs.declared.Algebra.{Algebra}
+use Rattle.semiring.specs.declared.Named.{Named}
+use Rattle.semiring.specs.declared.Named.the-variants.{Known, Unknown}
+use Rattle.closure.specs.Tests.{refuse, outside, anyAbove}
+use Rattle.systolic.specs.Jobs.{Jobs, wordsOf}
+use Rattle.systolic.specs.Tick.{Array, ticks}
+use Rattle.systolic.specs.State.{stateWords, orderOf, algebraOf, countOf, tickOf, planesOf, stateLength, total}
+use Rattle.systolic.specs.Start.{anyOutside}
+
+-- "state shorter than 4, its N, algebra or Q out of range, its length wrong, or tick above the total": all but the algebra
+abbrev pub badState : List ℕ → Bool
+badState state =
+    ltb (length state) 4
+    || outside 1 32 (orderOf state)
+    || outside 1 16 (countOf state)
+    || not (eqb (length state) (stateLength (orderOf state)))
+    || ltb (total (orderOf state) (countOf state)) (tickOf state)
+
+-- "10 ..; 11 sizes not Q many; 8; 3; 12 scratch length; 4 results not the sum of n²; 5"
+abbrev pub runTests : Named → List ℕ → List ℕ → List ℕ → List ℕ → List ℕ → ℕ
+runTests Unknown state sizes weights scratch results = 10
+runTests (Known a) state sizes weights scratch results =
+    refuse (badState state) 10
+    (refuse (not (eqb (length sizes) (countOf state))) 11
+    (refuse (anyOutside (orderOf state) sizes) 8
+    (refuse (not (eqb (length weights) (wordsOf sizes))) 3
+    (refuse (not (eqb (length scratch) (2 * (orderOf state * orderOf state)))) 12
+    (refuse (not (eqb (length results) (wordsOf sizes))) 4
+    (refuse (anyAbove (topOf a) weights) 5
+    0))))))
+
+-- "the smaller of its allowance and the ticks left"
+abbrev pub ticksMade : List ℕ → ℕ → ℕ
+ticksMade state allowance = min allowance (total (orderOf state) (countOf state) - tickOf state)
+
+-- What a call of Run answers and leaves: the refusal's number (0 for none), the ticks made, and every lent word.
+pub record Ran : Type 0 where
+  pub number : ℕ
+  pub made : ℕ
+  pub state : List ℕ
+  pub results : List ℕ
+  pub scratch : List ℕ
+
+-- The accepted run: "Scratch .. is left zero by every accepted run."
+unfoldable pub ranOn : Algebra → List ℕ → List ℕ → List ℕ → ℕ → List ℕ → List ℕ → Ran
+ranOn a state sizes weights allowance scratch results =
+    let J : Jobs = record { order = orderOf state; algebra = λ q. a; sizes = sizes; weights = weights } in
+    let made = ticksMade state allowance in
+    let m = ticks J (tickOf state) made (record { planes = planesOf state; results = results }) in
+    record {
+      number = 0;
+      made = made;
+      state = stateWords (orderOf state) (algebraOf state) (countOf state) (tickOf state + made) (m .planes);
+      results = m .results;
+      scratch = replicate (length scratch) 0;
+    }
+
+-- "Memory stays as it was" at a refusal.
+unfoldable pub refusedRun : ℕ → List ℕ → List ℕ → List ℕ → Ran
+refusedRun number state scratch results =
+    record { number = number; made = 0; state = state; results = results; scratch = scratch }
+
+unfoldable pub ranBy : Named → List ℕ → List ℕ → List ℕ → ℕ → List ℕ → List ℕ → Ran
+ranBy Unknown state sizes weights allowance scratch results = refusedRun 10 state scratch results
+ranBy (Known a) state sizes weights allowance scratch results =
+    let number = runTests (Known a) state sizes weights scratch results in
+    cond (eqb number 0)
+    (ranOn a state sizes weights allowance scratch results)
+    (refusedRun number state scratch results)
+
+-- A call of Run.
+abbrev pub ran : List ℕ → List ℕ → List ℕ → ℕ → List ℕ → List ℕ → Ran
+ran state = ranBy (namedOf (algebraOf state)) state

@@ -1,0 +1,63 @@
+//! The three algebras, as the table under "Algebras" in document 01 has them.
+
+#[derive(Clone, Copy, Debug, PartialEq, Eq)]
+pub enum Algebra {
+    Reach,
+    Distance,
+    Steepest,
+}
+
+impl Algebra {
+    /// In the order of their numbers.
+    pub const ALL: [Algebra; 3] = [Algebra::Reach, Algebra::Distance, Algebra::Steepest];
+
+    pub fn number(self) -> u32 {
+        match self {
+            Algebra::Reach => 0,
+            Algebra::Distance => 1,
+            Algebra::Steepest => 2,
+        }
+    }
+
+    pub fn name(self) -> &'static str {
+        match self {
+            Algebra::Reach => "reach",
+            Algebra::Distance => "distance",
+            Algebra::Steepest => "steepest",
+        }
+    }
+
+    /// The word of a pair with no link.
+    pub fn none(self) -> u16 {
+        match self {
+            Algebra::Reach => 0,
+            Algebra::Distance | Algebra::Steepest => 65535,
+        }
+    }
+
+    /// The word of a point with itself.
+    pub fn own(self) -> u16 {
+        match self {
+            Algebra::Reach => 1,
+            Algebra::Distance | Algebra::Steepest => 0,
+        }
+    }
+
+    /// The better of two words.
+    pub fn sum(self, x: u16, y: u16) -> u16 {
+        match self {
+            Algebra::Reach => x.max(y),
+            Algebra::Distance | Algebra::Steepest => x.min(y),
+        }
+    }
+
+    /// Two links joined.
+    pub fn product(self, x: u16, y: u16) -> u16 {
+        match self {
+            Algebra::Reach => x.min(y),
+            // In 32 bits the addition cannot wrap, so that it is plain where it is held.
+            Algebra::Distance => (u32::from(x) + u32::from(y)).min(65535) as u16,
+            Algebra::Steepest => x.max(y),
+        }
+    }
+}

@@ -1,0 +1,35 @@
+//! Where a call turns back: the row "Elimination" of the table in document 01, lengths in bytes.
+
+use crate::MAX_SIZE;
+
+/// The numbers of the refusals.
+pub const NUMBERS: [u32; 5] = [1, 2, 3, 4, 5];
+
+/// The number of the first test that applies, or 0 where the call is accepted.
+pub fn refusal(
+    algebra: u32,
+    size: usize,
+    weights_len: usize,
+    result_len: usize,
+    weights: &[u8],
+) -> u32 {
+    // Wide enough for the square of any size.
+    let wanted = 2 * (size as u128) * (size as u128);
+    if algebra > 2 {
+        1
+    } else if size == 0 || size > MAX_SIZE {
+        2
+    } else if weights_len as u128 != wanted {
+        3
+    } else if result_len as u128 != wanted {
+        4
+    } else if algebra == 0
+        && weights
+            .chunks(2)
+            .any(|word| word != [0, 0] && word != [1, 0])
+    {
+        5
+    } else {
+        0
+    }
+}

@@ -1,0 +1,100 @@
+//! The reference itself, held against what document 01 says apart from the elimination: the bench cards, ways, and the
+//! order of the tests.
+
+use reference::algebra::Algebra::{self, Distance, Reach, Steepest};
+use reference::damages::damaged_call;
+use reference::elimination::eliminate;
+use reference::random::Random;
+use reference::refusal::{refusal, NUMBERS};
+use reference::tables::{table, Kind};
+
+const NONE: u16 = 65535;
+
+#[test]
+fn bench_cards() {
+    assert_eq!(eliminate(Distance, 1, &[7]), [0]); // B1
+    assert_eq!(eliminate(Reach, 1, &[0]), [1]); // B2
+    let links = [0, 4, 9, NONE, 0, 3, 1, NONE, 0];
+    let distance = [0, 4, 7, 4, 0, 3, 1, 5, 0];
+    let steepest = [0, 4, 4, 3, 0, 3, 1, 4, 0];
+    assert_eq!(eliminate(Distance, 3, &links), distance); // B3
+    assert_eq!(eliminate(Steepest, 3, &links), steepest); // B4
+    let links = [0, 1, 1, 0, 0, 1, 1, 0, 0];
+    assert_eq!(eliminate(Reach, 3, &links), [1; 9]); // B5
+    for (second, wanted) in [(25534, 65534), (25535, NONE)] {
+        let links = [0, 40000, NONE, NONE, 0, second, NONE, NONE, 0];
+        assert_eq!(eliminate(Distance, 3, &links)[2], wanted); // B6, B7
+    }
+}
+
+/// The ways from a point to another: lists of points, repeats allowed.
+struct Ways<'a> {
+    algebra: Algebra,
+    size: usize,
+    weights: &'a [u16],
+    to: usize,
+}
+
+impl Ways<'_> {
+    /// The sum of `best` and the words of all ways that begin with a list which ends at `at` and has the word `word`,
+    /// and go on with at most `left` links.
+    fn best(&self, at: usize, word: u16, left: usize, mut best: u16) -> u16 {
+        if at == self.to {
+            best = self.algebra.sum(best, word);
+        }
+        if left > 0 {
+            for next in 0..self.size {
+                let joined = self.algebra.product(word, self.link(at, next));
+                best = self.best(next, joined, left - 1, best);
+            }
+        }
+        best
+    }
+
+    fn link(&self, from: usize, to: usize) -> u16 {
+        match from == to {
+            true => self.algebra.own(),
+            false => self.weights[from * self.size + to],
+        }
+    }
+}
+
+/// One link more than a way without a repeated point can have.
+#[test]
+fn each_entry_is_the_best_of_all_ways() {
+    let mut random = Random::new(1);
+    for size in [1, 2, 3, 4] {
+        for algebra in Algebra::ALL {
+            for kind in Kind::ALL {
+                let weights = &table(&mut random, algebra, size, kind);
+                let closure = eliminate(algebra, size, weights);
+                for (at, &entry) in closure.iter().enumerate() {
+                    let to = at % size;
+                    let ways = Ways {
+                        algebra,
+                        size,
+                        weights,
+                        to,
+                    };
+                    let best = ways.best(at / size, algebra.own(), size, algebra.none());
+                    assert_eq!(entry, best, "{algebra:?} {weights:?} {at}");
+                }
+            }
+        }
+    }
+}
+
+#[test]
+fn the_first_damage_is_the_refusal() {
+    let mut random = Random::new(2);
+    for first in NUMBERS {
+        for second in first..=5 {
+            for _ in 0..200 {
+                let call = damaged_call(&mut random, &[first, second]);
+                let (weights, result_len) = (&call.weights, call.result_len);
+                let number = refusal(call.algebra, call.size, weights.len(), result_len, weights);
+                assert_eq!(number, first, "{call:?}");
+            }
+        }
+    }
+}
