@@ -6,16 +6,15 @@ use mathlib.Core.List.{List}
 use mathlib.Core.Bool.{Bool, true, false, not}
 use lib.ListN.{length, getD}
 use lib.Dec.{eqb, ltb, eqb·suc-zero}
-use borrow.Author.Tests.{ltb-false, eqb-true, not-false}
+use borrow.Author.Tests.{le-ltb, eq-eqb, ltb-false, eqb-true, not-false}
 use Rattle.semiring.specs.Algebra.{Word, topOf}
 use Rattle.semiring.specs.declared.Algebra.{Algebra}
 use Rattle.semiring.specs.declared.Named.{Named}
 use Rattle.semiring.specs.declared.Named.the-variants.{Known, Unknown}
-use Rattle.closure.specs.Table.{entries, withOwn}
 use Rattle.closure.specs.Elimination.{eliminated}
 use Rattle.closure.specs.Tests.{refuse, outside, anyAbove, eliminationTests, resultAfter}
-use Rattle.closure.proofs.Above.{both-false, words-below}
-use Rattle.closure.proofs.Links.{Links, withOwn-links}
+use Rattle.memory.proofs.Any.{both-false}
+use Rattle.closure.proofs.Above.{none-above, words-below}
 
 pub record Accepted (a : Algebra) (n : ℕ) (w r : List ℕ) : Type 0 where
   pub least : 1 ≤ n
@@ -42,9 +41,6 @@ accepted {a} {n} {w} {r} e =
       words = words-below (topOf a) w (not-refused (anyAbove (topOf a) w) 4 0 e₃ .0);
     }
 
-pub accepted-links : {a : Algebra} {n : ℕ} {w r : List ℕ} → Accepted a n w r → Links a (withOwn a (entries n w))
-accepted-links {a} {n} {w} acc = withOwn-links a (entries n w) (λ i j. acc .words (i * n + j))
-
 -- An accepted call leaves the elimination in the result.
 pub accepted-result : (a : Algebra) (n : ℕ) (w r : List ℕ) → eliminationTests (Known a) n w r ≡ 0
     → resultAfter (Known a) n w r ≡ eliminated a n w
@@ -55,3 +51,14 @@ pub refused-result : (d : Named) (n : ℕ) (w r : List ℕ) (number : ℕ) → e
     → resultAfter d n w r ≡ r
 refused-result Unknown n w r number e = refl
 refused-result (Known a) n w r number e = rw e (rw (eqb·suc-zero number))
+
+-- The table read the other way: input that passes every test is accepted.
+pub accepts : {a : Algebra} {n : ℕ} {w r : List ℕ} → Accepted a n w r → eliminationTests (Known a) n w r ≡ 0
+accepts {a} {n} {w} {r} input =
+    rw (
+      le-ltb n 1 (input .least),
+      le-ltb 128 n (input .most),
+      eq-eqb (length w) (n * n) (input .weights),
+      eq-eqb (length r) (n * n) (input .result),
+      none-above (topOf a) w (λ p h. input .words p),
+    )

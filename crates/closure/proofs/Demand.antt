@@ -4,6 +4,7 @@ use native.Mathlib.Omega.{arith}
 use mathlib.Core.Path.{_≡_, refl}
 use mathlib.Core.List.{List}
 use lib.ListN.{getD}
+use Rattle.semiring.specs.Algebra.{Word}
 use Rattle.semiring.specs.declared.Algebra.{Algebra}
 use Rattle.semiring.specs.declared.Named.{Named}
 use Rattle.semiring.specs.Named.{namedOf}
@@ -15,17 +16,21 @@ use Rattle.closure.specs.Demand.{Best, Demand2, Demand2-result}
 use Rattle.closure.proofs.Holds.{rowByRow-holds}
 use Rattle.closure.proofs.Ways.{unbettered}
 use Rattle.closure.proofs.Simple.{attained-simple}
-use Rattle.closure.proofs.Accepted.{Accepted, accepted, accepted-links, accepted-result}
+use Rattle.closure.proofs.Links.{words-links}
+use Rattle.closure.proofs.Accepted.{Accepted, accepted, accepted-result}
+
+-- Of any table of words, accepted or not.
+pub closure-best : (a : Algebra) (n : ℕ) (w : List ℕ) → ((p : ℕ) → Word a (getD w p 0)) → {i j : ℕ} → i < n → j < n
+    → Best a n w i j (closure a n w i j)
+unfolding closure
+closure-best a n w words hi hj =
+    let links = words-links a n w words in
+    record { attained = attained-simple links hi hj; unbettered = λ l way. not-bettered (unbettered links way) }
 
 pub demand2 : Demand2
-unfolding closure
 demand2 a n w r e i j hi hj =
     let input : Accepted a n w r = accepted e in
-    let links = accepted-links input in
-    record {
-      attained = attained-simple links hi hj;
-      unbettered = λ l way. not-bettered (unbettered links way);
-    }
+    closure-best a n w (input .words) hi hj
 
 best-result : (d : Named) (n : ℕ) (w r : List ℕ) → eliminationTests d n w r ≡ 0
     → (a : Algebra) × (d ≡ Known a)

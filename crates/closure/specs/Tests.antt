@@ -1,9 +1,10 @@
 -- Document 01, "Where each call turns back", row Elimination: the number returned (0 for none), and the result after the call.
 use Prim.Native.Nat.{ℕ, _*_}
-use mathlib.Core.List.{List, [], _∷_}
+use mathlib.Core.List.{List}
 use mathlib.Core.Bool.{Bool, true, false, cond, not, _||_}
 use lib.ListN.{length}
 use lib.Dec.{eqb, ltb}
+use Rattle.memory.specs.Lists.{any}
 use Rattle.semiring.specs.Algebra.{topOf}
 use Rattle.semiring.specs.declared.Named.{Named}
 use Rattle.semiring.specs.declared.Named.the-variants.{Known, Unknown}
@@ -18,9 +19,8 @@ abbrev pub outside : ℕ → ℕ → ℕ → Bool
 outside least most n = ltb n least || ltb most n
 
 -- "a reach word above 1": no 16-bit word is above the largest one of the other two algebras
-unfoldable pub anyAbove : ℕ → List ℕ → Bool
-anyAbove top [] = false
-anyAbove top (x ∷ w) = ltb top x || anyAbove top w
+abbrev pub anyAbove : ℕ → List ℕ → Bool
+anyAbove top = any (ltb top)
 
 -- "1 algebra unknown; 2 size; 3 weights not n² words; 4 result not n² words; 5 a reach word above 1, diagonal too"
 abbrev pub eliminationTests : Named → ℕ → List ℕ → List ℕ → ℕ

@@ -3,7 +3,7 @@ ghost use mathlib.Core.Path.{_≡_};
 ghost use Prim.Native.Nat.{_*_, _≤_, _<_};
 ghost use lib.ListN.{length};
 ghost use Rattle.closure.specs.Table.{entries, rowByRow, withOwn};
-use crate::words::copy;
+use memory::copy;
 use semiring::Algebra;
 use semiring::own;
 

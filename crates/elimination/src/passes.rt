@@ -9,7 +9,7 @@ ghost use Rattle.elimination.specs.Relax.{relaxed, relaxedTwice};
 ghost use Rattle.elimination.specs.Rows.{Sized, rowwise};
 use crate::relax::relax;
 use crate::relax::relax_two;
-use crate::words::copy;
+use memory::copy;
 use semiring::Algebra;
 
 // Every row through point k, whose row was `via`.

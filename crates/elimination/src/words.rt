@@ -1,38 +1,21 @@
-// Walks over words that know nothing of tables.
+// Whether words are words of their algebra.
 ghost use mathlib.Core.Path.{_≡_};
-ghost use mathlib.Core.Bool.{not};
-ghost use Prim.Native.Nat.{ℕ, _≤_};
-ghost use lib.ListN.{length, getD};
 ghost use Rattle.semiring.specs.Algebra.{topOf};
 ghost use Rattle.closure.specs.Tests.{anyAbove};
-ghost use Rattle.memory.proofs.Walk.{Walked};
 use semiring::Algebra;
 use semiring::Reach;
 
-// The words of `from` to the front of `to`.
-pub fn copy(from: &[u16], to: &mut [u16])
-    requires { ⌜ length (now from) ≤ length (now to) ⌝ }
-    ensures { λ _. ⌜ Walked (λ p old. getD (now (from .entry)) p 0) (now (to .entry)) (length (now (from .entry))) (now (to .exit)) ⌝ }
-{
-    let mut p = 0;
-    while p < from.len() {
-        to[p] = from[p];
-        p += 1;
-    }
-}
-
-// Whether a word is above `top`.
+// Whether a word is above `top`. The walk does not stop at the first one, so that it runs on vectors.
 fn above(top: u16, words: &[u16]) -> bool
     ensures { λ r. ⌜ r ≡ anyAbove top (now (words .entry)) ⌝ }
 {
+    let mut found = false;
     let mut p = 0;
     while p < words.len() {
-        if top < words[p] {
-            return true;
-        }
+        found = found | (top < words[p]);
         p += 1;
     }
-    false
+    found
 }
 
 // Whether a word is none of the algebra's: only reach has fewer words than there are 16-bit numbers.

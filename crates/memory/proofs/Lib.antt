@@ -1,3 +1,4 @@
+pub mod Any
 pub mod ListOf
 pub mod Part
 pub mod Walk

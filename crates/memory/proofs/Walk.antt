@@ -1,19 +1,15 @@
--- A loop that goes through a memory from the front and gives each word p the value f p of its old one: what holds after m words.
+-- Walks over a memory: one word more, a part more, the whole.
 use Prim.Native.Nat.{ℕ, zero, suc, _+_, _-_, _<_, _≤_}
 use native.Mathlib.Omega.{arith}
 use native.Mathlib.Decide.{decLt, ℕ-discrete}
 use mathlib.Core.Path.{_≡_, refl, sym, ap, _∙_}
 use mathlib.Core.List.{List}
-use lib.ListN.{length, getD, set, take, drop, length-set, length-drop}
+use lib.ListN.{length, getD, set, take, drop, replicate, length-set, length-drop, length-replicate, getD-replicate}
 use lib.Seq.{getD-set-same, getD-set-other, getD-drop, ext-getD}
 use Rattle.memory.specs.Lists.{listOf, replaced}
+pub use Rattle.memory.specs.Walked.{Walked}
 use Rattle.memory.proofs.ListOf.{is-listOf}
 use Rattle.memory.proofs.Part.{replaced-length, replaced-before, replaced-inside, replaced-after}
-
-pub record Walked (f : ℕ → ℕ → ℕ) (old : List ℕ) (m : ℕ) (l : List ℕ) : Type 0 where
-  pub size : length l ≡ length old
-  pub done : (p : ℕ) → p < m → getD l p 0 ≡ f p (getD old p 0)
-  pub rest : (p : ℕ) → m ≤ p → getD l p 0 ≡ getD old p 0
 
 module _ {f : ℕ → ℕ → ℕ} {old : List ℕ} where
   pub walked-none : Walked f old 0 old
@@ -62,3 +58,11 @@ module _ {f : ℕ → ℕ → ℕ} {old : List ℕ} where
 
   pub walked-all : {l : List ℕ} {m : ℕ} → Walked f old m l → m ≡ length old → l ≡ listOf (length old) (λ p. f p (getD old p 0))
   walked-all {l} c e = is-listOf (length old) (λ p. f p (getD old p 0)) l (c .size) (λ p h. c .done p (omega arith))
+
+-- A whole walk that writes 0 leaves zeros.
+pub walked-zero : {old l : List ℕ} {m : ℕ} → Walked (λ p word. 0) old m l → m ≡ length old → l ≡ replicate (length old) 0
+walked-zero {old} {l} c e =
+    ext-getD 0 l (replicate (length old) 0) (c .size ∙ sym (length-replicate (length old) 0))
+    (λ p h.
+    let k : p < length old = omega (arith, c .size) in
+    c .done p (omega arith) ∙ sym (getD-replicate (length old) p 0 0 k))

@@ -1,6 +1,7 @@
--- The list of a function's values, and a memory after a part of it was lent and given back.
+-- The list of a function's values, a test over a list, and a memory after a part of it was lent and given back.
 use Prim.Native.Nat.{ℕ, zero, suc}
 use mathlib.Core.List.{List, [], _∷_, _++_}
+use mathlib.Core.Bool.{Bool, false, _||_}
 use lib.ListN.{take, drop}
 
 -- f 0, f 1, .. f (m - 1)
@@ -11,3 +12,8 @@ listOf (suc m) f = f zero ∷ listOf m (λ p. f (suc p))
 -- The list l with `new` for the w words that begin at `at`.
 abbrev pub replaced : ℕ → ℕ → List ℕ → List ℕ → List ℕ
 replaced at w new l = take at l ++ (new ++ drop w (drop at l))
+
+-- Whether some word of the list meets the test.
+unfoldable pub any : (ℕ → Bool) → List ℕ → Bool
+any test [] = false
+any test (x ∷ l) = test x || any test l

@@ -1,1 +1,28 @@
-// Laws of lent memory, for the proofs of every crate above: no code, only definitions and theorems about lists of words.
+// Lent memory: the two walks over words that every crate above uses, and under specs/ and proofs/ the laws of lists of words.
+ghost use mathlib.Core.Path.{_≡_};
+ghost use Prim.Native.Nat.{_≤_};
+ghost use lib.ListN.{length, getD, replicate};
+ghost use Rattle.memory.specs.Walked.{Walked};
+
+// The words of `from` to the front of `to`.
+pub fn copy(from: &[u16], to: &mut [u16])
+    requires { ⌜ length (now from) ≤ length (now to) ⌝ }
+    ensures { λ _. ⌜ Walked (λ p word. getD (now (from .entry)) p 0) (now (to .entry)) (length (now (from .entry))) (now (to .exit)) ⌝ }
+{
+    let mut p = 0;
+    while p < from.len() {
+        to[p] = from[p];
+        p += 1;
+    }
+}
+
+// Every word 0.
+pub fn clear(words: &mut [u16])
+    ensures { λ _. ⌜ now (words .exit) ≡ replicate (length (now (words .entry))) 0 ⌝ }
+{
+    let mut p = 0;
+    while p < words.len() {
+        words[p] = 0;
+        p += 1;
+    }
+}

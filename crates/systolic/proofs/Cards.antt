@@ -1,16 +1,14 @@
 -- The cards hold by computation.
 use mathlib.Core.Path.{refl}
-use Rattle.memory.specs.Lists.{listOf}
-use Rattle.closure.specs.Tests.{anyAbove}
+use Rattle.memory.specs.Lists.{listOf, any}
 use Rattle.systolic.specs.Jobs.{offset}
 use Rattle.systolic.specs.Tick.{cellAfter, planesAfter, emitted, emittedRows, ticked, ticks}
-use Rattle.systolic.specs.Start.{anyOutside}
 use Rattle.systolic.specs.Run.{ranOn, refusedRun, ranBy}
 use Rattle.systolic.specs.Demand.{runs}
 use Rattle.systolic.specs.Cards.{ArrayCards}
 
 pub cards : ArrayCards
-unfolding listOf anyAbove offset cellAfter planesAfter emitted emittedRows ticked ticks anyOutside ranOn refusedRun ranBy runs
+unfolding listOf any offset cellAfter planesAfter emitted emittedRows ticked ticks ranOn refusedRun ranBy runs
 cards = record {
   B8-before = refl;
   B8-results = refl;

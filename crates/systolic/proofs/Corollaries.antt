@@ -1,32 +1,19 @@
 -- The corollaries of demand 3: an entry whose tick is past is its job's elimination word, which demand 2 describes, and which depends
 -- on the job's own size and words alone.
-use Prim.Native.Nat.{ℕ, _<_}
+use Prim.Native.Nat.{ℕ}
 use mathlib.Core.Path.{_≡_, sym, ap₂, _∙_}
 use mathlib.Core.List.{List}
-use lib.ListN.{length, getD}
+use lib.ListN.{length}
 use borrow.Author.Tests.{lt-ltb}
-use Rattle.semiring.specs.Algebra.{Word}
-use Rattle.semiring.specs.declared.Algebra.{Algebra}
 use Rattle.semiring.specs.Named.{namedOf}
-use Rattle.semiring.proofs.Order.{not-bettered}
 use Rattle.closure.specs.Elimination.{closure}
-use Rattle.closure.specs.Demand.{Best}
-use Rattle.closure.proofs.Ways.{unbettered}
-use Rattle.closure.proofs.Simple.{attained-simple}
+use Rattle.closure.proofs.Demand.{closure-best}
 use Rattle.systolic.specs.Jobs.{Jobs, size, wordsOf, jobWeights}
 use Rattle.systolic.specs.Demand.{Call, Runs, Claim, leaves, jobsOf}
 use Rattle.systolic.specs.Corollaries.{Past, wordAt, Demand3-best, Own-words-only}
-use Rattle.systolic.proofs.Padding.{own-links, job-words}
+use Rattle.systolic.proofs.Padding.{job-words}
 use Rattle.systolic.proofs.Started.{Started, started-known, started-by, started-fit}
 use Rattle.systolic.proofs.Demand.{started-claim}
-
--- Demand 2 of any table of words.
-pub closure-best : (a : Algebra) (n : ℕ) (w : List ℕ) → ((p : ℕ) → Word a (getD w p 0)) → {i k : ℕ} → i < n → k < n
-    → Best a n w i k (closure a n w i k)
-unfolding closure
-closure-best a n w words hi hk =
-    let links = own-links a n w words in
-    record { attained = attained-simple links hi hk; unbettered = λ l way. not-bettered (unbettered links way) }
 
 -- What demand 3 says of an entry whose tick is past.
 pub past-word : {J : Jobs} {algebra : ℕ} {calls : List Call} {results : List ℕ} {after : Runs} → Claim J algebra calls results after

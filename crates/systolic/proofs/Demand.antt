@@ -50,7 +50,7 @@ claimed {J} {algebra} {calls} {results} {after} reached run =
           (q, i, k, at .job, at .row, at .column, e);
       unfit = λ d.
           let none : after .made ≡ 0 = omega (arith, run .made, run .unfit d) in
-          words ∙ ap (λ (T : ℕ). ticks J 0 T (fresh (J .order) results) .results) none;
+          (none, words ∙ ap (λ (T : ℕ). ticks J 0 T (fresh (J .order) results) .results) none);
     }
 
 module _ {a : Algebra} {order : ℕ} {sizes weights : List ℕ} (start : Started a order sizes weights) (algebra : ℕ)

@@ -35,9 +35,6 @@ part-words a n m w words p = go (decLt p n)
         let short : length (take n (drop m w)) ≤ p = omega (arith, length-take n (drop m w)) in
         rw (List·getD-eq-default (take n (drop m w)) 0 short) zero-le
 
-pub own-links : (a : Algebra) (n : ℕ) (w : List ℕ) → ((p : ℕ) → Word a (getD w p 0)) → Links a (withOwn a (entries n w))
-own-links a n w words = withOwn-links a (entries n w) (λ i j. words (i * n + j))
-
 module _ (a : Algebra) (n : ℕ) (w : List ℕ) (words : (p : ℕ) → Word a (getD w p 0)) where
   pub padded-links : Links a (padded a n w)
   padded-links =

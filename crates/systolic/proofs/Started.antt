@@ -1,9 +1,8 @@
 -- What the tests of Start ask of an order, an algebra and a list of jobs; such jobs fit the array.
-use Prim.Native.Nat.{ℕ, zero, suc, _≤_, _<_}
-use native.Mathlib.Nat.{not-suc-le-zero}
+use Prim.Native.Nat.{ℕ, _≤_, _<_}
 use native.Mathlib.Omega.{arith}
 use mathlib.Core.Path.{_≡_, refl}
-use mathlib.Core.List.{List, [], _∷_}
+use mathlib.Core.List.{List}
 use mathlib.Core.Bool.{false, not}
 use lib.ListN.{length, getD}
 use lib.Dec.{eqb, ltb}
@@ -13,7 +12,8 @@ use Rattle.semiring.specs.declared.Algebra.{Algebra}
 use Rattle.semiring.specs.declared.Named.{Named}
 use Rattle.semiring.specs.declared.Named.the-variants.{Known, Unknown}
 use Rattle.closure.specs.Tests.{outside, anyAbove}
-use Rattle.closure.proofs.Above.{both-false, words-below}
+use Rattle.memory.proofs.Any.{both-false, any-none}
+use Rattle.closure.proofs.Above.{words-below}
 use Rattle.closure.proofs.Accepted.{not-refused}
 use Rattle.systolic.specs.Jobs.{wordsOf}
 use Rattle.systolic.specs.State.{stateLength}
@@ -57,11 +57,7 @@ inside {least} {most} {n} e =
 
 pub sizes-fit : (order : ℕ) (sizes : List ℕ) → anyOutside order sizes ≡ false → (q : ℕ) → q < length sizes
     → (1 ≤ getD sizes q 0) × (getD sizes q 0 ≤ order)
-unfolding anyOutside
-sizes-fit order [] e q h = absurd (not-suc-le-zero h)
-sizes-fit order (n ∷ sizes) e zero h = inside (both-false (outside 1 order n) (anyOutside order sizes) e .0)
-sizes-fit order (n ∷ sizes) e (suc q) h =
-    sizes-fit order sizes (both-false (outside 1 order n) (anyOutside order sizes) e .1) q (omega arith)
+sizes-fit order sizes e q h = inside (any-none (outside 1 order) sizes e q h)
 
 pub started-fit : {a : Algebra} {order : ℕ} {sizes weights : List ℕ} → Started a order sizes weights → Fit (jobsOf a order sizes weights)
 started-fit {a} {order} {sizes} {weights} s = record {

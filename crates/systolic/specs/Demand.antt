@@ -87,7 +87,8 @@ pub record Claim (J : Jobs) (algebra : ℕ) (calls : List Call) (results : List 
       → (p : ℕ) → p < length results
       → (q : ℕ) × (i : ℕ) × (k : ℕ) × (q < count J) × (i < size J q) × (k < size J q) × (p ≡ place J q i k)
   -- "Where the length of the results doesn't fit the jobs, every run is refused and no word changes."
-  pub unfit : (length results ≡ wordsOf (J .sizes) → ⊥) → after .results ≡ results
+  -- Then no tick is made, so by `state` the state is the one that start left.
+  pub unfit : (length results ≡ wordsOf (J .sizes) → ⊥) → (after .made ≡ 0) × (after .results ≡ results)
 
 -- The jobs of a list in one algebra.
 abbrev pub jobsOf : Algebra → ℕ → List ℕ → List ℕ → Jobs

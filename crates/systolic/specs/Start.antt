@@ -1,9 +1,10 @@
 -- Document 01: Start, its tests and the state after it.
 use Prim.Native.Nat.{ℕ, _*_}
-use mathlib.Core.List.{List, [], _∷_}
-use mathlib.Core.Bool.{Bool, false, cond, not, _||_}
+use mathlib.Core.List.{List}
+use mathlib.Core.Bool.{Bool, cond, not}
 use lib.ListN.{length, replicate}
 use lib.Dec.{eqb}
+use Rattle.memory.specs.Lists.{any}
 use Rattle.semiring.specs.Algebra.{topOf}
 use Rattle.semiring.specs.Named.{namedOf}
 use Rattle.semiring.specs.declared.Named.{Named}
@@ -14,9 +15,8 @@ use Rattle.systolic.specs.Jobs.{wordsOf}
 use Rattle.systolic.specs.State.{stateWords, stateLength}
 
 -- "a job's size outside 1 to N"
-unfoldable pub anyOutside : ℕ → List ℕ → Bool
-anyOutside order [] = false
-anyOutside order (n ∷ sizes) = outside 1 order n || anyOutside order sizes
+abbrev pub anyOutside : ℕ → List ℕ → Bool
+anyOutside order = any (outside 1 order)
 
 -- "1; 6 order; 7 sizes not 1 to 16 many; 8 a job's size outside 1 to N; 3 weights not the sum of n²; 9 state not 4 + 3N² words; 5"
 abbrev pub startTests : Named → ℕ → List ℕ → List ℕ → List ℕ → ℕ

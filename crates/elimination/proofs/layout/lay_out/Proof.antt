@@ -13,7 +13,6 @@ use Rattle.elimination.proofs.layout.lay_out.Statement.{statement}
 use Rattle.elimination.proofs.layout.lay_out.Tie as tie
 use Rattle.elimination.proofs.layout.lay_out.Reads as reads
 use Rattle.elimination.proofs.layout.lay_out.Lts as lts
-use Rattle.elimination.proofs.words.copy.Reads as copy-reads
 use Rattle.semiring.proofs.own.Reads as own-reads
 
 abbrev Inv-loop : tie.InvT-loop

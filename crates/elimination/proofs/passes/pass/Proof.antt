@@ -11,7 +11,6 @@ use Rattle.elimination.proofs.passes.pass.Tie as tie
 use Rattle.elimination.proofs.passes.pass.Reads as reads
 use Rattle.elimination.proofs.passes.pass.Lts as lts
 use Rattle.elimination.proofs.passes.rows.Reads as rows-reads
-use Rattle.elimination.proofs.words.copy.Reads as copy-reads
 
 -- src/passes.rt:49:14
 mul-at : tie.Need-mul-at

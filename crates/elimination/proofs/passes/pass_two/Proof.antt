@@ -13,7 +13,6 @@ use Rattle.elimination.proofs.passes.pass_two.Reads as reads
 use Rattle.elimination.proofs.passes.pass_two.Lts as lts
 use Rattle.elimination.proofs.passes.rows_two.Reads as rows-two-reads
 use Rattle.elimination.proofs.relax.relax.Reads as relax-reads
-use Rattle.elimination.proofs.words.copy.Reads as copy-reads
 
 -- src/passes.rt:60:14
 mul-at : tie.Need-mul-at

@@ -2,12 +2,12 @@ use mathlib.Core.Path.{refl}
 use Prim.Native.Nat.{ℕ, _≤_, _-_}
 use native.Mathlib.Omega.{arith}
 use lib.ListN.{length, getD}
 use Rattle.memory.proofs.Walk.{Walked, walked-none, walked-one, walked-to}
 use borrow.Author.Needs.{needs}
-use Rattle.elimination.proofs.words.copy.Statement.{statement}
-use Rattle.elimination.proofs.words.copy.Tie as tie
-use Rattle.elimination.proofs.words.copy.Reads as reads
-use Rattle.elimination.proofs.words.copy.Lts as lts
+use Rattle.memory.proofs.copy.Statement.{statement}
+use Rattle.memory.proofs.copy.Tie as tie
+use Rattle.memory.proofs.copy.Reads as reads
+use Rattle.memory.proofs.copy.Lts as lts
 
 abbrev Inv-loop : tie.InvT-loop
 Inv-loop from to₀ p₀ to p = (p ≤ length from) × Walked (λ q old. getD from q 0) to₀ p to
