@@ -5,7 +5,7 @@ use native.Mathlib.Nat.{add-sub-of-le, add-assoc}
 use mathlib.Core.Path.{_≡_, sym, ap, _∙_}
 use mathlib.Core.List.{List, _++_}
 use lib.ListN.{length, getD, take, drop, length-append, length-take, length-drop, List·getD-append}
-use lib.Seq.{getD-append-add, getD-take, getD-drop, length-take-le}
+use lib.Seq.{getD-append-add, getD-take, getD-drop, length-take-le, take-at, drop-at}
 use Rattle.memory.specs.Lists.{replaced}
 
 module _ (at w : ℕ) (l : List ℕ) (fits : at + w ≤ length l) where
@@ -45,3 +45,7 @@ module _ (at w : ℕ) (l : List ℕ) (fits : at + w ≤ length l) where
         ∙ getD-drop w (drop at l) q 0
         ∙ getD-drop at l (w + q) 0
         ∙ ap (λ (m : ℕ). getD l m 0) (sym e)
+
+-- The part at a seam of the list: what stands before and after it stays.
+pub replaced-seam : (at w : ℕ) (p y z new : List ℕ) → length p ≡ at → length y ≡ w → replaced at w new (p ++ (y ++ z)) ≡ p ++ (new ++ z)
+replaced-seam at w p y z new before width = rw (take-at p (y ++ z) at before, drop-at p (y ++ z) at before, drop-at y z w width)

@@ -66,3 +66,7 @@ walked-zero {old} {l} c e =
     (λ p h.
     let k : p < length old = omega (arith, c .size) in
     c .done p (omega arith) ∙ sym (getD-replicate (length old) p 0 0 k))
+
+-- A whole walk that copies leaves the list that was copied.
+pub walked-copy : (from : List ℕ) {old l : List ℕ} → Walked (λ p word. getD from p 0) old (length from) l → length old ≡ length from → l ≡ from
+walked-copy from {old} {l} c e = ext-getD 0 l from (c .size ∙ e) (λ p h. c .done p (omega (arith, c .size)))

@@ -12,7 +12,7 @@ use Rattle.closure.specs.Elimination.{closure}
 use Rattle.closure.specs.Tests.{refuse}
 use Rattle.systolic.specs.Jobs.{Jobs, count, size, wordsOf, jobWeights, place}
 use Rattle.systolic.specs.Tick.{Array, ticks}
-use Rattle.systolic.specs.State.{stateWords, total, tickOf}
+use Rattle.systolic.specs.State.{stateWords, tickOf}
 use Rattle.systolic.specs.Start.{startTests, started, zeroPlanes}
 use Rattle.systolic.specs.Run.{Ran, ran}
 
@@ -64,7 +64,7 @@ pub record Claim (J : Jobs) (algebra : ℕ) (calls : List Call) (results : List 
   -- "A run is refused exactly where the table of tests says so"
   pub refusals : after .numbers ≡ numbersDue (J .order) (J .sizes) calls results
   -- "ticks made = min(sum of accepted allowances, 4NQ + 2N - 2)"; "the state's tick equals that sum"
-  pub made : after .made ≡ min (after .allowed) (total (J .order) (count J))
+  pub made : after .made ≡ min (after .allowed) (4 * J .order * count J + 2 * J .order - 2)
   pub tick : tickOf (after .state) ≡ after .made
   -- "the planes are that many ticks of document 01's cell rule from what start left", and the other words are start's
   pub state :

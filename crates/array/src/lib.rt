@@ -1,0 +1,15 @@
+// The array's calls: start lays a state out in lent memory, run makes ticks of it.
+mod head;
+mod planes;
+mod running;
+mod sizes;
+mod starting;
+
+pub use head::Header;
+pub use running::RunAnswer;
+pub use running::run;
+pub use running::run_number;
+pub use running::ticks_made;
+pub use starting::StartAnswer;
+pub use starting::start;
+pub use starting::start_number;

@@ -1,0 +1,189 @@
+// Run: ticks of a started array.
+ghost use mathlib.Core.Path.{_≡_};
+ghost use Prim.Native.Nat.{_*_, min};
+ghost use lib.ListN.{length};
+ghost use Rattle.systolic.specs.Run.{ran};
+ghost use Rattle.array.specs.RunAnswer.{runNumber, runMade, Answered};
+ghost use Rattle.array.specs.Runnable.{Runnable, stateMade, resultsMade};
+use crate::head::Header;
+use crate::head::HeaderRead;
+use crate::head::read_header;
+use crate::head::store_header;
+use crate::planes::put_planes;
+use crate::planes::take_planes;
+use crate::sizes::any_outside;
+use crate::sizes::words_of;
+use cells::advance;
+use elimination::has_word_above;
+use memory::clear;
+use semiring::Algebra;
+
+// What a call of run answers: the ticks made, or why it turned back.
+pub enum RunAnswer {
+    Made(u16),
+    StateUnfit,
+    JobsDiffer,
+    SizeOutside,
+    WeightsLength,
+    ScratchLength,
+    ResultsLength,
+    WordAbove,
+}
+
+// `made` ticks of a state that runs, with room for its planes.
+fn with_planes(
+    algebra: Algebra,
+    header: Header,
+    made: u16,
+    sizes: &[u16],
+    weights: &[u16],
+    state: &mut [u16],
+    results: &mut [u16],
+    c: &mut [u16],
+    a: &mut [u16],
+    b: &mut [u16],
+)
+    requires { ⌜ Runnable header made (now sizes) (now weights) (now state) (now results) ⌝ }
+    requires { ⌜ (length (now c) ≡ header .order * header .order) × (length (now a) ≡ header .order * header .order)
+        × (length (now b) ≡ header .order * header .order) ⌝ }
+    ensures { λ _. ⌜ (now (state .exit) ≡ stateMade algebra made (now (sizes .entry)) (now (weights .entry)) (now (state .entry)) (now (results .entry)))
+        × (now (results .exit) ≡ resultsMade algebra made (now (sizes .entry)) (now (weights .entry)) (now (state .entry)) (now (results .entry))) ⌝ }
+{
+    let n = header.order as usize;
+    let tick = header.tick as usize;
+    take_planes(n, state, c, a, b);
+    advance(
+        algebra,
+        n,
+        tick,
+        made as usize,
+        sizes,
+        weights,
+        c,
+        a,
+        b,
+        results,
+    );
+    put_planes(n, c, a, b, state);
+    store_header(header.next_tick(made), state);
+}
+
+fn plane_room() -> [u16; 1024]
+    ensures { λ r. ⌜ length r ≡ 1024 ⌝ }
+{
+    [0u16; 1024]
+}
+
+// The same with room of its own.
+fn proceed(
+    algebra: Algebra,
+    header: Header,
+    made: u16,
+    sizes: &[u16],
+    weights: &[u16],
+    state: &mut [u16],
+    results: &mut [u16],
+)
+    requires { ⌜ Runnable header made (now sizes) (now weights) (now state) (now results) ⌝ }
+    ensures { λ _. ⌜ (now (state .exit) ≡ stateMade algebra made (now (sizes .entry)) (now (weights .entry)) (now (state .entry)) (now (results .entry)))
+        × (now (results .exit) ≡ resultsMade algebra made (now (sizes .entry)) (now (weights .entry)) (now (state .entry)) (now (results .entry))) ⌝ }
+{
+    let mut c = plane_room();
+    let mut a = plane_room();
+    let mut b = plane_room();
+    let n = header.order as usize;
+    let area = n * n;
+    with_planes(
+        algebra,
+        header,
+        made,
+        sizes,
+        weights,
+        state,
+        results,
+        &mut c[..area],
+        &mut a[..area],
+        &mut b[..area],
+    );
+}
+
+fn smaller(x: u16, y: u16) -> u16
+    ensures { λ r. ⌜ r ≡ min x y ⌝ }
+{
+    if x < y { x } else { y }
+}
+
+// The smaller of the allowance and the ticks left. A refusal leaves state, results and scratch as they were; an accepted run
+// leaves the scratch zero.
+pub fn run(
+    state: &mut [u16],
+    sizes: &[u16],
+    weights: &[u16],
+    allowance: u16,
+    scratch: &mut [u16],
+    results: &mut [u16],
+) -> RunAnswer
+    ensures { λ r. ⌜ Answered r (now (state .exit)) (now (scratch .exit)) (now (results .exit))
+        (ran (now (state .entry)) (now (sizes .entry)) (now (weights .entry)) allowance (now (scratch .entry)) (now (results .entry))) ⌝ }
+{
+    let HeaderRead::Fit(header, algebra) = read_header(state) else {
+        return RunAnswer::StateUnfit;
+    };
+    let order = header.order as usize;
+    let count = header.count as usize;
+    if sizes.len() != count {
+        return RunAnswer::JobsDiffer;
+    }
+    if any_outside(order, sizes) {
+        return RunAnswer::SizeOutside;
+    }
+    let words = words_of(sizes);
+    if weights.len() != words {
+        return RunAnswer::WeightsLength;
+    }
+    if scratch.len() != 2 * (order * order) {
+        return RunAnswer::ScratchLength;
+    }
+    if results.len() != words {
+        return RunAnswer::ResultsLength;
+    }
+    if has_word_above(algebra, weights) {
+        return RunAnswer::WordAbove;
+    }
+    let made = smaller(allowance, header.ticks_left());
+    proceed(algebra, header, made, sizes, weights, state, results);
+    clear(scratch);
+    RunAnswer::Made(made)
+}
+
+// The number of document 01 for an answer of run, 0 where it was accepted.
+pub fn run_number(answer: RunAnswer) -> u32
+    ensures { λ r. ⌜ r ≡ runNumber answer ⌝ }
+{
+    match answer {
+        RunAnswer::Made(_) => 0,
+        RunAnswer::StateUnfit => 10,
+        RunAnswer::JobsDiffer => 11,
+        RunAnswer::SizeOutside => 8,
+        RunAnswer::WeightsLength => 3,
+        RunAnswer::ScratchLength => 12,
+        RunAnswer::ResultsLength => 4,
+        RunAnswer::WordAbove => 5,
+    }
+}
+
+// The ticks that a run made, 0 where it was refused.
+pub fn ticks_made(answer: RunAnswer) -> u16
+    ensures { λ r. ⌜ r ≡ runMade answer ⌝ }
+{
+    match answer {
+        RunAnswer::Made(made) => made,
+        RunAnswer::StateUnfit => 0,
+        RunAnswer::JobsDiffer => 0,
+        RunAnswer::SizeOutside => 0,
+        RunAnswer::WeightsLength => 0,
+        RunAnswer::ScratchLength => 0,
+        RunAnswer::ResultsLength => 0,
+        RunAnswer::WordAbove => 0,
+    }
+}

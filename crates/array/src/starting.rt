@@ -1,0 +1,105 @@
+// Start: a state laid out for a list of jobs.
+ghost use mathlib.Core.Path.{_≡_};
+ghost use lib.ListN.{length};
+ghost use Rattle.semiring.specs.Named.{namedOf};
+ghost use Rattle.systolic.specs.State.{stateWords, stateLength};
+ghost use Rattle.systolic.specs.Start.{startTests, stateAfterStart, zeroPlanes};
+ghost use Rattle.array.specs.StartAnswer.{startNumber};
+use crate::head::Header;
+use crate::head::store_header;
+use crate::sizes::any_outside;
+use crate::sizes::words_of;
+use elimination::has_word_above;
+use memory::clear;
+use semiring::Named;
+use semiring::from_number;
+
+// What a call of start answers: that the state is laid out, or why it turned back.
+pub enum StartAnswer {
+    Done,
+    AlgebraUnknown,
+    OrderOutside,
+    JobsOutside,
+    SizeOutside,
+    WeightsLength,
+    StateLength,
+    WordAbove,
+}
+
+// A state with planes 0.
+fn lay_out(header: Header, state: &mut [u16])
+    requires { ⌜ length (now state) ≡ stateLength (header .order) ⌝ }
+    ensures { λ _. ⌜ now (state .exit)
+        ≡ stateWords (header .order) (header .algebra) (header .count) (header .tick) (zeroPlanes (header .order)) ⌝ }
+{
+    clear(state);
+    store_header(header, state);
+}
+
+// A list of jobs for an array of the given order. A refusal leaves the state as it was.
+pub fn start(
+    algebra: u32,
+    order: usize,
+    sizes: &[u16],
+    weights: &[u16],
+    state: &mut [u16],
+) -> StartAnswer
+    ensures outcome { λ r. ⌜ startNumber r
+        ≡ startTests (namedOf algebra) order (now (sizes .entry)) (now (weights .entry)) (now (state .entry)) ⌝ }
+    ensures memory { λ _. ⌜ now (state .exit)
+        ≡ stateAfterStart algebra order (now (sizes .entry)) (now (weights .entry)) (now (state .entry)) ⌝ }
+{
+    let Named::Known(a) = from_number(algebra) else {
+        return StartAnswer::AlgebraUnknown;
+    };
+    if order < 1 {
+        return StartAnswer::OrderOutside;
+    }
+    if 32 < order {
+        return StartAnswer::OrderOutside;
+    }
+    if sizes.len() < 1 {
+        return StartAnswer::JobsOutside;
+    }
+    if 16 < sizes.len() {
+        return StartAnswer::JobsOutside;
+    }
+    if any_outside(order, sizes) {
+        return StartAnswer::SizeOutside;
+    }
+    if weights.len() != words_of(sizes) {
+        return StartAnswer::WeightsLength;
+    }
+    if state.len() != 4 + 3 * (order * order) {
+        return StartAnswer::StateLength;
+    }
+    if has_word_above(a, weights) {
+        return StartAnswer::WordAbove;
+    }
+    lay_out(
+        Header {
+            order: order as u16,
+            algebra: algebra as u16,
+            count: sizes.len() as u16,
+            tick: 0,
+        },
+        state,
+    );
+    StartAnswer::Done
+}
+
+// The number of document 01 for an answer of start, 0 where it was accepted.
+pub fn start_number(answer: StartAnswer) -> u32
+    ensures { λ r. ⌜ r ≡ startNumber answer ⌝ }
+{
+    match answer {
+        StartAnswer::Done => 0,
+        StartAnswer::AlgebraUnknown => 1,
+        StartAnswer::OrderOutside => 6,
+        StartAnswer::JobsOutside => 7,
+        StartAnswer::SizeOutside => 8,
+        StartAnswer::WeightsLength => 3,
+        StartAnswer::StateLength => 9,
+        StartAnswer::WordAbove => 5,
+    }
+}

@@ -1,0 +1,72 @@
+use Rattle.memory.proofs.Walk.{Walked, walked-none, walked-one, walked-to}
+use lib.ListN.{length, getD}
+use mathlib.Core.Path.{refl}
+use Prim.Native.Nat.{ℕ, _≤_, _-_}
+use native.Mathlib.Omega.{arith}
+use Rattle.cells.proofs.feed.copy.Statement.{statement}
+use Rattle.cells.proofs.feed.copy.Tie as tie
+use Rattle.cells.proofs.feed.copy.Reads as reads
+use Rattle.cells.proofs.feed.copy.Lts as lts
+
+abbrev Inv-loop : tie.InvT-loop
+Inv-loop from to₀ p₀ to p = (p ≤ length from) × Walked (λ q old. getD from q 0) to₀ p to
+
+abbrev μ-loop : tie.MeasureT-loop
+μ-loop from to₀ p₀ to p = length from - p
+
+-- src/feed.rt:27:5
+loop-holds : tie.Need-loop-holds Inv-loop μ-loop
+loop-holds c = (omega arith, walked-none)
+
+-- src/feed.rt:28:17
+mul-to : tie.Need-mul-to Inv-loop μ-loop
+mul-to c = omega arith
+
+-- src/feed.rt:28:17
+shared-slice-read-to : tie.Need-shared-slice-read-to Inv-loop μ-loop
+shared-slice-read-to c = omega arith
+
+-- src/feed.rt:28:9
+mul-to-2 : tie.Need-mul-to-2 Inv-loop μ-loop
+mul-to-2 c = omega arith
+
+-- src/feed.rt:28:9
+slice-write-to : tie.Need-slice-write-to Inv-loop μ-loop
+slice-write-to c = omega arith
+
+-- src/feed.rt:29:9
+add-p : tie.Need-add-p Inv-loop μ-loop
+add-p c = omega arith
+
+-- src/feed.rt:27:5
+loop-less : tie.Need-loop-less Inv-loop μ-loop
+loop-less c = omega arith
+
+-- src/feed.rt:27:5
+loop-again : tie.Need-loop-again Inv-loop μ-loop
+loop-again c = (omega arith, walked-one _ (c .before .before .loop .inv .1) (omega arith) refl)
+
+-- src/feed.rt:22:1
+same-length : tie.Need-same-length Inv-loop μ-loop
+same-length c = c .before .loop .inv .1 .size
+
+-- src/feed.rt:22:1
+returns : tie.Need-returns Inv-loop μ-loop
+returns c = walked-to (c .before .loop .inv .1) (omega arith)
+
+pub copy-spec : {M : Type 1} → statement M
+copy-spec =
+    tie.close
+    (tie.spec
+    Inv-loop
+    μ-loop
+    loop-holds
+    mul-to
+    shared-slice-read-to
+    mul-to-2
+    slice-write-to
+    add-p
+    loop-less
+    loop-again
+    same-length
+    returns)
