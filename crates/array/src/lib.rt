@@ -5,7 +5,6 @@ mod running;
 mod sizes;
 mod starting;
 
-pub use head::Header;
 pub use running::RunAnswer;
 pub use running::run;
 pub use running::run_number;

@@ -13,7 +13,8 @@ listOf (suc m) f = f zero ∷ listOf m (λ p. f (suc p))
 abbrev pub replaced : ℕ → ℕ → List ℕ → List ℕ → List ℕ
 replaced at w new l = take at l ++ (new ++ drop w (drop at l))
 
--- Whether some word of the list meets the test.
-unfoldable pub any : (ℕ → Bool) → List ℕ → Bool
-any test [] = false
-any test (x ∷ l) = test x || any test l
+-- Whether some member of the list meets the test.
+module _ {A : Type 0} where
+  unfoldable pub any : (A → Bool) → List A → Bool
+  any test [] = false
+  any test (x ∷ l) = test x || any test l

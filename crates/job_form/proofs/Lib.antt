@@ -1,0 +1,4 @@
+pub mod Cuts
+pub mod Digits
+pub mod Lines
+pub mod Runs

@@ -1,0 +1,11 @@
+pub mod Listing
+pub mod Padded
+pub mod Tallies
+pub mod Turns
+pub mod Scans
+pub mod Advances
+pub mod Follows
+pub mod Readings
+pub mod Insensitive
+pub mod Whole
+pub mod Borders

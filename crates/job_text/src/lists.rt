@@ -1,0 +1,90 @@
+// The line that opens a list, and the brackets that close a job and the list.
+ghost use mathlib.Core.Path.{_≡_};
+ghost use Prim.Native.Nat.{ℕ};
+ghost use Rattle.job_form.specs.Forms.{list, close};
+ghost use Rattle.job_text.specs.Steps.{Progress, listTests, listEndTests, dueAfterClose, step};
+ghost use Rattle.job_text.specs.States.{stateOf, nextOf};
+use crate::state::Due;
+use crate::state::Next;
+use crate::state::State;
+use crate::state::for_due;
+use job_form::Token;
+
+fn list_tests(order: Token, algebra: Token) -> u16
+    ensures { λ r. ⌜ r ≡ listTests order algebra ⌝ }
+{
+    if !order.is_numeral() {
+        return 14;
+    }
+    if !algebra.is_name() {
+        return 14;
+    }
+    if order.is_over() {
+        return 15;
+    }
+    let n = order.value();
+    if n < 1 {
+        return 6;
+    }
+    if 32 < n {
+        return 6;
+    }
+    0
+}
+
+pub fn list_step(s: State, order: Token, algebra: Token) -> Next
+    ensures { λ r. ⌜ ((n : ℕ) (p : Progress) → s ≡ stateOf n p → r ≡ nextOf n (step p (list order algebra))) ⌝ }
+{
+    let due = s.due;
+    let number = for_due(due, list_tests(order, algebra), 14, 14, 14);
+    if number != 0 {
+        return Next::Stop(number);
+    }
+    Next::On(State {
+        due: Due::Job,
+        order: order.value(),
+        algebra: algebra.algebra(),
+        jobs: s.jobs,
+        size: 0,
+        left: 0,
+        at: s.at,
+    })
+}
+
+fn list_end_tests(jobs: u16) -> u16
+    ensures { λ r. ⌜ r ≡ listEndTests jobs ⌝ }
+{
+    if jobs == 0 { 7 } else { 0 }
+}
+
+fn due_after_close(due: Due) -> Due
+    ensures { λ r. ⌜ r ≡ dueAfterClose due ⌝ }
+{
+    match due {
+        Due::List => Due::Nothing,
+        Due::Job => Due::Nothing,
+        Due::Row => Due::Nothing,
+        Due::Close => Due::Job,
+        Due::Nothing => Due::Nothing,
+    }
+}
+
+pub fn close_step(s: State) -> Next
+    ensures { λ r. ⌜ ((n : ℕ) (p : Progress) → s ≡ stateOf n p → r ≡ nextOf n (step p close)) ⌝ }
+{
+    let due = s.due;
+    let number = for_due(due, 14, list_end_tests(s.jobs), 14, 0);
+    if number != 0 {
+        return Next::Stop(number);
+    }
+    let algebra = s.algebra;
+    Next::On(State {
+        due: due_after_close(due),
+        order: s.order,
+        algebra,
+        jobs: s.jobs,
+        size: s.size,
+        left: s.left,
+        at: s.at,
+    })
+}
