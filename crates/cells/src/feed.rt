@@ -2,11 +2,10 @@
 ghost use mathlib.Core.Path.{_≡_};
 ghost use Prim.Native.Nat.{ℕ, _+_, _-_, _*_, _≤_, _<_};
 ghost use mathlib.Core.List.{List};
-ghost use lib.ListN.{length, getD};
+ghost use lib.ListN.{length};
 ghost use Rattle.closure.specs.Table.{entries};
 ghost use Rattle.systolic.specs.Jobs.{wordsOf, padded};
 ghost use Rattle.systolic.specs.Demand.{jobsOf};
-ghost use Rattle.memory.proofs.Walk.{Walked};
 ghost use Rattle.cells.specs.Span.{Spanned, memories};
 ghost use Rattle.cells.specs.Turn.{Corner, tickOf};
 ghost use Rattle.cells.specs.Feed.{fedIn, topWord, Listed};
@@ -14,21 +13,10 @@ ghost use Rattle.cells.specs.Cells.{Topped};
 use crate::jobs::job_of;
 use crate::turn::Turn;
 use crate::turn::live;
+use memory::copy;
 use semiring::Algebra;
 use semiring::none;
 use semiring::own;
-
-// The words of `from` to the front of `to`.
-pub fn copy(from: &[u16], to: &mut [u16])
-    requires { ⌜ length (now from) ≤ length (now to) ⌝ }
-    ensures { λ _. ⌜ Walked (λ p old. getD (now (from .entry)) p 0) (now (to .entry)) (length (now (from .entry))) (now (to .exit)) ⌝ }
-{
-    let mut p = 0;
-    while p < from.len() {
-        to[p] = from[p];
-        p += 1;
-    }
-}
 
 // Entry (i, j) of a job of a size, padded.
 fn fed(algebra: Algebra, size: usize, weights: &[u16], i: usize, j: usize) -> u16

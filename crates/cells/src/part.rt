@@ -80,10 +80,10 @@ fn own_column(k: usize, to: usize) -> usize
 }
 
 // The column before `to` whose point is the row i, but in the fourth pass; `to` where there is none.
-fn row_column(p: usize, i: usize, k: usize, to: usize) -> usize
-    ensures { λ r. ⌜ ((j : ℕ) → j < to → j ≤ k → eqb j r ≡ (eqb (k - j) i && ltb p 3)) ⌝ }
+fn row_column(pass: usize, i: usize, k: usize, to: usize) -> usize
+    ensures { λ r. ⌜ ((j : ℕ) → j < to → j ≤ k → eqb j r ≡ (eqb (k - j) i && ltb pass 3)) ⌝ }
 {
-    if 2 < p {
+    if 2 < pass {
         return to;
     }
     if k < i {

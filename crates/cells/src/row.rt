@@ -5,9 +5,9 @@ ghost use lib.ListN.{length, getD};
 ghost use Rattle.closure.specs.Table.{entries};
 ghost use Rattle.cells.specs.Span.{Spanned, Worked, memories};
 ghost use Rattle.cells.specs.Cells.{shifted, aboveOf, rowCell};
-use crate::feed::copy;
 use crate::part::cells;
 use crate::turn::Turn;
+use memory::copy;
 use semiring::Algebra;
 
 // The row moved one place on, with `word` at its front.

@@ -20,9 +20,9 @@ pub fn copy(from: &[u16], to: &mut [u16])
 pub fn clear(words: &mut [u16])
     ensures { λ _. ⌜ now (words .exit) ≡ replicate (length (now (words .entry))) 0 ⌝ }
 {
-    let mut p = 0;
-    while p < words.len() {
-        words[p] = 0;
-        p += 1;
+    let mut at = 0;
+    while at < words.len() {
+        words[at] = 0;
+        at += 1;
     }
 }

@@ -10,10 +10,10 @@ use Rattle.memory.proofs.clear.Reads as reads
 use Rattle.memory.proofs.clear.Lts as lts
 
 abbrev Inv-loop : tie.InvT-loop
-Inv-loop words₀ p₀ words p = (p ≤ length words₀) × Walked (λ q word. 0) words₀ p words
+Inv-loop words₀ at₀ words at = (at ≤ length words₀) × Walked (λ q word. 0) words₀ at words
 
 abbrev μ-loop : tie.MeasureT-loop
-μ-loop words₀ p₀ words p = length words₀ - p
+μ-loop words₀ at₀ words at = length words₀ - at
 
 -- src/words.rt:9:5
 loop-holds : tie.Need-loop-holds Inv-loop μ-loop
@@ -28,8 +28,8 @@ slice-write-words : tie.Need-slice-write-words Inv-loop μ-loop
 slice-write-words c = search needs
 
 -- src/words.rt:11:9
-add-p : tie.Need-add-p Inv-loop μ-loop
-add-p c = search needs
+add-at : tie.Need-add-at Inv-loop μ-loop
+add-at c = search needs
 
 -- src/words.rt:9:5
 loop-less : tie.Need-loop-less Inv-loop μ-loop
@@ -56,7 +56,7 @@ clear-spec =
     loop-holds
     mul-words
     slice-write-words
-    add-p
+    add-at
     loop-less
     loop-again
     same-length

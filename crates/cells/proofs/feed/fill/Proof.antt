@@ -12,7 +12,7 @@ use Rattle.cells.proofs.feed.fill.Statement.{statement}
 use Rattle.cells.proofs.feed.fill.Tie as tie
 use Rattle.cells.proofs.feed.fill.Reads as reads
 use Rattle.cells.proofs.feed.fill.Lts as lts
-use Rattle.cells.proofs.feed.copy.Reads as copy-reads
+use Rattle.memory.proofs.copy.Reads as copy-reads
 use Rattle.cells.proofs.feed.feed_part.Reads as feed-part-reads
 use Rattle.cells.proofs.turn.Turn.across.Reads as across-reads
 

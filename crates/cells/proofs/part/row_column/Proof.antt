@@ -6,11 +6,11 @@ use Rattle.cells.proofs.part.row_column.Lts as lts
 
 -- src/part.rt:79:9
 returns : tie.Need-returns
-returns c = λ j h k. row-late (c .before .args .p) (c .before .args .i) (c .before .args .k) j (c .if1 .taken) h
+returns c = λ j h k. row-late (c .before .args .pass) (c .before .args .i) (c .before .args .k) j (c .if1 .taken) h
 
 -- src/part.rt:82:9
 returns-2 : tie.Need-returns-2
-returns-2 c = λ j h k. row-past (c .before .before .args .p) j (c .if2 .taken) h
+returns-2 c = λ j h k. row-past (c .before .before .args .pass) j (c .if2 .taken) h
 
 -- src/part.rt:75:1
 returns-3 : tie.Need-returns-3

@@ -10,7 +10,7 @@ use Rattle.cells.proofs.row.over.Statement.{statement}
 use Rattle.cells.proofs.row.over.Tie as tie
 use Rattle.cells.proofs.row.over.Reads as reads
 use Rattle.cells.proofs.row.over.Lts as lts
-use Rattle.cells.proofs.feed.copy.Reads as copy-reads
+use Rattle.memory.proofs.copy.Reads as copy-reads
 
 -- src/row.rt:34:14
 slice-aggregate-copy : tie.Need-slice-aggregate-copy
