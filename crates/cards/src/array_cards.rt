@@ -1,138 +1,89 @@
-// Cards of the array: B8, B10, one whose words need the third pass, and the array's part of B11.
-use crate::print;
+// Cards of the array.
+use crate::verdict::same;
 use array::run;
 use array::run_number;
 use array::start;
 use array::start_number;
 use array::ticks_made;
 
-// One run: the refusal's number or 0, the ticks made and the results.
-fn ran(
-    label: &[u8],
+// A start that answers the given number.
+pub fn starts(
+    algebra: u32,
+    order: usize,
+    sizes: &[u16],
+    weights: &[u16],
+    state: &mut [u16],
+    number: u32,
+) -> bool {
+    start_number(start(algebra, order, sizes, weights, state)) == number
+}
+
+// An accepted run that makes the given ticks and leaves the given results.
+pub fn makes(
     state: &mut [u16],
     sizes: &[u16],
     weights: &[u16],
     allowance: u16,
     scratch: &mut [u16],
     results: &mut [u16],
-) {
+    ticks: u16,
+    expected: &[u16],
+) -> bool {
     let answer = run(state, sizes, weights, allowance, scratch, results);
-    let made = ticks_made(answer);
-    print::text(label);
-    print::number(run_number(answer));
-    print::text(b" made");
-    print::words(&[made]);
-    print::text(b":");
-    print::words(results);
-    print::end();
+    if run_number(answer) != 0 {
+        return false;
+    }
+    if ticks_made(answer) != ticks {
+        return false;
+    }
+    same(results, expected)
 }
 
-fn started(
-    label: &[u8],
-    algebra: u32,
-    order: usize,
-    sizes: &[u16],
-    weights: &[u16],
-    state: &mut [u16],
-) {
-    print::text(label);
-    print::number(start_number(start(algebra, order, sizes, weights, state)));
-    print::end();
-}
-
-pub fn one_cell() {
+// Its word leaves on tick 3, 4 ticks in all.
+pub fn one_cell() -> bool {
+    let n = [1u16];
+    let w = [7u16];
     let mut state = [9u16; 7];
     let mut scratch = [9u16; 2];
-    let mut results = [9u16; 1];
-    started(b"B8 start", 1, 1, &[1u16], &[7u16], &mut state);
-    ran(
-        b"B8 run 3",
-        &mut state,
-        &[1u16],
-        &[7u16],
-        3,
-        &mut scratch,
-        &mut results,
-    );
-    ran(
-        b"B8 run 9",
-        &mut state,
-        &[1u16],
-        &[7u16],
-        9,
-        &mut scratch,
-        &mut results,
-    );
+    let mut r = [9u16; 1];
+    let started = starts(1, 1, &n, &w, &mut state, 0);
+    let before = makes(&mut state, &n, &w, 3, &mut scratch, &mut r, 3, &[9u16]);
+    let after = makes(&mut state, &n, &w, 9, &mut scratch, &mut r, 1, &[0u16]);
+    started & before & after
+}
+
+// A run of jobs of sizes 3 and 2 after which job 1 has the given words, and job 0 its own.
+fn step(s: &mut [u16], allowance: u16, r: &mut [u16], made: u16, job1: [u16; 4]) -> bool {
+    let n = [3u16, 2];
+    let w = [0u16, 4, 9, 65535, 0, 3, 1, 65535, 0, 0, 5, 6, 0];
+    let mut scratch = [9u16; 18];
+    let mut expected = [0u16, 4, 7, 4, 0, 3, 1, 5, 0, 9, 9, 9, 9];
+    expected[9] = job1[0];
+    expected[10] = job1[1];
+    expected[11] = job1[2];
+    expected[12] = job1[3];
+    makes(s, &n, &w, allowance, &mut scratch, r, made, &expected)
 }
 
 // Sizes 3 and 2 nose to tail: job 1's words leave on ticks 23, 24, 24 and 25 of 28.
-pub fn two_jobs() {
-    let sizes = [3u16, 2];
-    let weights = [0u16, 4, 9, 65535, 0, 3, 1, 65535, 0, 0, 5, 6, 0];
-    let mut state = [9u16; 31];
-    let mut scratch = [9u16; 18];
-    let mut results = [9u16; 13];
-    started(b"B10 start", 1, 3, &sizes, &weights, &mut state);
-    ran(
-        b"B10 run 23",
-        &mut state,
-        &sizes,
-        &weights,
-        23,
-        &mut scratch,
-        &mut results,
-    );
-    ran(
-        b"B10 run 1",
-        &mut state,
-        &sizes,
-        &weights,
-        1,
-        &mut scratch,
-        &mut results,
-    );
-    ran(
-        b"B10 run 1",
-        &mut state,
-        &sizes,
-        &weights,
-        1,
-        &mut scratch,
-        &mut results,
-    );
-    ran(
-        b"B10 run 1",
-        &mut state,
-        &sizes,
-        &weights,
-        1,
-        &mut scratch,
-        &mut results,
-    );
-    ran(
-        b"B10 run 99",
-        &mut state,
-        &sizes,
-        &weights,
-        99,
-        &mut scratch,
-        &mut results,
-    );
-    ran(
-        b"B10 finished, run 5",
-        &mut state,
-        &sizes,
-        &weights,
-        5,
-        &mut scratch,
-        &mut results,
-    );
+pub fn two_jobs() -> bool {
+    let n = [3u16, 2];
+    let w = [0u16, 4, 9, 65535, 0, 3, 1, 65535, 0, 0, 5, 6, 0];
+    let mut s = [9u16; 31];
+    let mut r = [9u16; 13];
+    let started = starts(1, 3, &n, &w, &mut s, 0);
+    let before = step(&mut s, 23, &mut r, 23, [9u16, 9, 9, 9]);
+    let tick_23 = step(&mut s, 1, &mut r, 1, [0u16, 9, 9, 9]);
+    let tick_24 = step(&mut s, 1, &mut r, 1, [0u16, 5, 6, 9]);
+    let tick_25 = step(&mut s, 1, &mut r, 1, [0u16, 5, 6, 0]);
+    let rest = step(&mut s, 99, &mut r, 2, [0u16, 5, 6, 0]);
+    started & before & tick_23 & tick_24 & tick_25 & rest
 }
 
 // With two passes the way from 0 to 2 would have length 7 and not 6.
-pub fn third_pass() {
-    let sizes = [5u16];
-    let weights = [
+pub fn third_pass() -> bool {
+    let n = [5u16];
+    let w = [
         0u16,
         65535,
         7,
@@ -159,51 +110,37 @@ pub fn third_pass() {
         65535,
         0,
     ];
+    let closed = [
+        0u16,
+        3,
+        6,
+        4,
+        2,
+        3,
+        0,
+        3,
+        1,
+        1,
+        2,
+        1,
+        0,
+        2,
+        1,
+        4,
+        3,
+        2,
+        0,
+        3,
+        2,
+        1,
+        4,
+        2,
+        0,
+    ];
     let mut state = [9u16; 79];
     let mut scratch = [9u16; 50];
-    let mut results = [9u16; 25];
-    started(b"third pass start", 1, 5, &sizes, &weights, &mut state);
-    ran(
-        b"third pass run 100",
-        &mut state,
-        &sizes,
-        &weights,
-        100,
-        &mut scratch,
-        &mut results,
-    );
-}
-
-pub fn borders() {
-    let mut state = [9u16; 3076];
-    let weights = [0u16; 1024];
-    started(b"B11 order 32", 1, 32, &[32u16], &weights, &mut state);
-    started(b"B11 order 33", 1, 33, &[32u16], &weights, &mut state);
-    let mut small = [9u16; 7];
-    let ones = [1u16; 17];
-    let words = [0u16; 17];
-    started(b"B11 16 jobs", 1, 1, &ones[..16], &words[..16], &mut small);
-    started(b"B11 17 jobs", 1, 1, &ones, &words, &mut small);
-    started(b"B11 reach word 2", 0, 1, &[1u16], &[2u16], &mut small);
-    let mut scratch = [9u16; 2];
-    let mut results = [9u16; 16];
-    ran(
-        b"B11 allowance 0",
-        &mut small,
-        &ones[..16],
-        &words[..16],
-        0,
-        &mut scratch,
-        &mut results,
-    );
-    let mut long = [9u16; 3];
-    ran(
-        b"scratch of 3 words",
-        &mut small,
-        &ones[..16],
-        &words[..16],
-        5,
-        &mut long,
-        &mut results,
-    );
+    let mut r = [9u16; 25];
+    let started = starts(1, 5, &n, &w, &mut state, 0);
+    let ran = makes(&mut state, &n, &w, 100, &mut scratch, &mut r, 28, &closed);
+    started & ran
 }

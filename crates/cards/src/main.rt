@@ -1,14 +1,22 @@
-// Bench cards of document 01 that are run: one line for each, held to the stored output.
+// The bench cards of document 01, run: one line for each.
 mod array_cards;
-mod print;
+mod limit_cards;
 mod table_cards;
+mod verdict;
+
+use verdict::tell;
 
 fn main() {
-    table_cards::one_point();
-    table_cards::three_points();
-    table_cards::sizes();
-    array_cards::one_cell();
-    array_cards::two_jobs();
-    array_cards::third_pass();
-    array_cards::borders();
+    tell(b"B1: ", table_cards::one_point());
+    tell(b"B2: ", table_cards::one_point_reach());
+    tell(b"B3: ", table_cards::distance());
+    tell(b"B4: ", table_cards::steepest());
+    tell(b"B5: ", table_cards::reach());
+    tell(b"B6: ", table_cards::longest());
+    tell(b"B7: ", table_cards::too_long());
+    tell(b"B8: ", array_cards::one_cell());
+    tell(b"B10: ", array_cards::two_jobs());
+    tell(b"B11: ", limit_cards::all());
+    tell(b"elimination, last pass: ", table_cards::last_pass());
+    tell(b"array, third pass: ", array_cards::third_pass());
 }
