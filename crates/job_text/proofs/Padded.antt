@@ -5,12 +5,10 @@ use native.Mathlib.Decide.{decLt}
 use mathlib.Core.Path.{_≡_, refl, sym, ap, _∙_}
 use mathlib.Core.List.{List, [], _∷_, _++_}
 use mathlib.Core.Bool.{cond}
-use lib.ListN.{length, set, length-set, length-append}
+use lib.ListN.{length, set, replicate, length-set, length-append}
 use lib.Seq.{set-out}
 use lib.Dec.{ltb}
 use borrow.Author.Tests.{lt-ltb, le-ltb}
-use Rattle.memory.specs.Lists.{listOf}
-use Rattle.memory.proofs.Walk.{Walked, walked-all}
 use Rattle.job_text.specs.Reading.{padded}
 use Rattle.job_text.specs.States.{Held}
 
@@ -19,13 +17,9 @@ length-padded zero ws = refl
 length-padded (suc n) [] = ap suc (length-padded n [])
 length-padded (suc n) (w ∷ ws) = ap suc (length-padded n ws)
 
-zeros : (n : ℕ) → listOf n (λ p. 0) ≡ padded n []
-unfolding listOf
+pub zeros : (n : ℕ) → replicate n 0 ≡ padded n []
 zeros zero = refl
 zeros (suc n) = ap (λ (l : List ℕ). 0 ∷ l) (zeros n)
-
-pub cleared : {old l : List ℕ} {m : ℕ} → Walked (λ p word. 0) old m l → m ≡ length old → l ≡ padded (length old) []
-cleared {old} w e = walked-all w e ∙ zeros (length old)
 
 pub set-padded : (n : ℕ) (ws : List ℕ) (v : ℕ) → set (padded n ws) (length ws) v ≡ padded n (ws ++ (v ∷ []))
 set-padded zero ws v = refl

@@ -10,11 +10,7 @@ ghost use Rattle.job_text.specs.Reading.{padded};
 pub fn clear(words: &mut [u16])
     ensures { λ _. ⌜ now (words .exit) ≡ padded (length (now (words .entry))) [] ⌝ }
 {
-    let mut p = 0;
-    while p < words.len() {
-        words[p] = 0;
-        p += 1;
-    }
+    memory::clear(words);
 }
 
 // Puts a word at a place. Past the end it is dropped: a line with so many words is refused.
