@@ -1,6 +1,5 @@
 pub mod Above
 pub mod Accepted
-pub mod Cards
 pub mod Demand
 pub mod Holds
 pub mod Links

@@ -3,4 +3,3 @@ pub mod Elimination
 pub mod Ways
 pub mod Tests
 pub mod Demand
-pub mod Cards

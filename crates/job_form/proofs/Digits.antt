@@ -12,7 +12,8 @@ use lib.Dec.{ltb, eqb}
 use borrow.Author.Tests.{lt-ltb, le-ltb, eq-eqb, ne-eqb}
 use Rattle.job_form.specs.Pieces.{same}
 use Rattle.job_form.specs.declared.tokens.Token.the-variants.{Number, Over}
-use Rattle.job_form.specs.Tokens.{digits, decimal, numeral}
+use Rattle.memory.specs.Ascii.{decimal}
+use Rattle.job_form.specs.Tokens.{digits, numeral}
 
 pub digits-other : (b : ℕ) (p : List ℕ) → (b < 48) → digits (b ∷ p) ≡ false
 unfolding digits

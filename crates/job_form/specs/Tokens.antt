@@ -1,5 +1,5 @@
 -- Document 01, "Job text and bench program": what a part of a line stands for.
-use Prim.Native.Nat.{ℕ, _+_, _*_, _-_}
+use Prim.Native.Nat.{ℕ}
 use mathlib.Core.List.{List, [], _∷_}
 use mathlib.Core.Bool.{Bool, true, false, cond, not, _&&_, _||_}
 use lib.ListN.{length}
@@ -9,18 +9,13 @@ use Rattle.semiring.specs.declared.Algebra.the-variants.{Reach, Distance, Steep
 use Rattle.closure.specs.Tests.{outside}
 use Rattle.job_form.specs.declared.tokens.Token.{Token}
 use Rattle.job_form.specs.declared.tokens.Token.the-variants.{Number, Over, Dash, Name, Other}
-use Rattle.memory.specs.Ascii.{ascii}
+use Rattle.memory.specs.Ascii.{ascii, decimal}
 use Rattle.job_form.specs.Pieces.{same}
 
 -- "a numeral is a run of digits": bytes 48 to 57.
 unfoldable pub digits : List ℕ → Bool
 digits [] = true
 digits (b ∷ p) = not (outside 48 57 b) && digits p
-
--- The number of decimal digits that follow those of v.
-unfoldable pub decimal : ℕ → List ℕ → ℕ
-decimal v [] = v
-decimal v (b ∷ p) = decimal (10 * v + (b - 48)) p
 
 -- "Numbers have 1 to 5 decimal digits, leading zeros allowed"; "15 a numeral over 5 digits or above 65535".
 abbrev pub numeral : List ℕ → Token

@@ -3,9 +3,9 @@ use mathlib.Core.Path.{_≡_, refl}
 use mathlib.Core.List.{[], _∷_}
 use Rattle.semiring.specs.declared.Algebra.the-variants.{Distance}
 use Rattle.memory.specs.Lists.{any}
-use Rattle.memory.specs.Ascii.{ascii}
+use Rattle.memory.specs.Ascii.{ascii, decimal}
 use Rattle.job_form.specs.Pieces.{cut, lines, placed, parts}
-use Rattle.job_form.specs.Tokens.{digits, decimal, tokenOf}
+use Rattle.job_form.specs.Tokens.{digits, tokenOf}
 use Rattle.job_form.specs.Forms.{words, headOf, formOf}
 use Rattle.job_text.specs.Steps.{step}
 use Rattle.job_text.specs.Reading.{refused, accepted, follow, readingOf}

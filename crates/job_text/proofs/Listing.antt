@@ -2,7 +2,8 @@
 use mathlib.Core.Path.{refl}
 use Rattle.memory.specs.Lists.{any}
 use Rattle.job_form.specs.Pieces.{cut, lines, placed, parts}
-use Rattle.job_form.specs.Tokens.{digits, decimal, tokenOf}
+use Rattle.memory.specs.Ascii.{decimal}
+use Rattle.job_form.specs.Tokens.{digits, tokenOf}
 use Rattle.job_form.specs.Forms.{words, headOf, formOf}
 use Rattle.job_text.specs.Steps.{step}
 use Rattle.job_text.specs.Reading.{follow, readingOf}

@@ -1,12 +1,13 @@
--- What has been read fits the buffers, after every line.
+-- What has been read fits the buffers and the tests of a list, after every line.
 use Prim.Native.Nat.{ℕ, zero, suc, _+_, _*_, _-_, _<_, _≤_}
+use native.Mathlib.Nat.{zero-mul}
 use native.Mathlib.Omega.{arith}
 use mathlib.Core.Path.{_≡_, refl, ap, _∙_}
 use mathlib.Core.List.{List, [], _∷_, _++_, map}
 use mathlib.Core.Bool.{Bool, true, false, not, _||_}
 use lib.ListN.{length, length-append, length-map}
 use lib.Dec.{eqb, ltb, leb}
-use borrow.Author.Tests.{ltb-false, leb-false, eqb-true, not-false}
+use borrow.Author.Tests.{ltb-false, leb-true, leb-false, eqb-true, eqb-false, not-false}
 use Rattle.semiring.specs.Algebra.{topOf}
 use Rattle.semiring.specs.declared.Algebra.{Algebra}
 use Rattle.memory.specs.Lists.{any}
@@ -18,60 +19,92 @@ use Rattle.job_form.specs.Tokens.{isNumeral, isOver, isName, valueOf}
 use Rattle.job_form.specs.Forms.{Form, list, job, row, close, skipped, unknown, formOf}
 use Rattle.job_text.specs.declared.state.Due.{Due}
 use Rattle.job_text.specs.declared.state.Due.the-variants as due
-use Rattle.job_text.specs.Steps.{Progress, start, overIn, noWord, wordOf, forDue, listTests, jobTests, rowTests, tests, after, dueAfterRow, dueAfterClose, Step, go, stop, proceed, step}
+use Rattle.job_text.specs.Steps.{Progress, start, overIn, noWord, wordOf, forDue, listTests, jobTests, rowTests, listEndTests, tests, after, dueAfterRow, dueAfterClose, Step, go, stop, proceed, step}
 use Rattle.job_text.specs.Reading.{Reading, refused, accepted, ended, follow, unless, readingOf}
-use Rattle.job_text.specs.Whole.{Whole}
-use Rattle.job_text.proofs.Turns.{refuse-zero, job-due}
+use Rattle.job_text.specs.Whole.{squares, Accepted, Whole}
+use Rattle.job_text.proofs.Turns.{refuse-zero}
 
--- a row that is due has rows left
-abbrev RowLeft : Due → ℕ → Type 0
-RowLeft due.List left = Unit {0}
-RowLeft due.Job left = Unit {0}
-RowLeft due.Row left = 1 ≤ left
-RowLeft due.Close left = Unit {0}
-RowLeft due.Nothing left = Unit {0}
+-- What is due, and what has been read by then: no list, whole jobs, or a job with rows left.
+abbrev Stage : Due → Progress → Type 0
+Stage due.List p = (p .sizes ≡ []) × (p .weights ≡ [])
+Stage due.Job p = (1 ≤ p .order) × (p .left ≡ 0)
+Stage due.Row p = (1 ≤ p .order) × (1 ≤ p .left)
+Stage due.Close p = (1 ≤ p .order) × (p .left ≡ 0)
+Stage due.Nothing p = (1 ≤ p .order) × (p .left ≡ 0) × (1 ≤ length (p .sizes))
 
 record Within (p : Progress) : Type 0 where
   pub orders : p .order ≤ 32
   pub points : p .size ≤ 32
   pub jobs : length (p .sizes) ≤ 16
   pub words : length (p .weights) + 32 * p .left ≤ 1024 * length (p .sizes)
-  pub left-due : RowLeft (p .due) (p .left)
+  pub due-words : length (p .weights) + p .left * p .size ≡ squares (p .sizes)
+  pub inside : any (outside 1 (p .order)) (p .sizes) ≡ false
+  pub below : anyAbove (topOf (p .algebra)) (p .weights) ≡ false
+  pub stage : Stage (p .due) p
 
 within-start : Within start
-within-start = record { orders = omega arith; points = omega arith; jobs = omega arith; words = omega arith; left-due = tt }
+unfolding squares any
+within-start = record {
+  orders = omega arith;
+  points = omega arith;
+  jobs = omega arith;
+  words = omega arith;
+  due-words = refl;
+  inside = refl;
+  below = refl;
+  stage = (refl, refl);
+}
 
--- the tests of a form that is due, where its number is 0
-list-due : (d : Due) (k : ℕ) → forDue d k 14 14 14 ≡ 0 → k ≡ 0
-list-due due.List k e = e
-list-due due.Job k e = absurd (omega arith)
-list-due due.Row k e = absurd (omega arith)
-list-due due.Close k e = absurd (omega arith)
-list-due due.Nothing k e = absurd (omega arith)
+squares-append : (l : List ℕ) (n : ℕ) → squares (l ++ (n ∷ [])) ≡ squares l + n * n
+unfolding squares
+squares-append [] n = omega arith
+squares-append (x ∷ l) n = omega (arith, squares-append l n)
 
-row-due : (d : Due) (k left : ℕ) → RowLeft d left → forDue d 14 14 k 14 ≡ 0 → (k ≡ 0) × (1 ≤ left)
-row-due due.List k left h e = absurd (omega arith)
-row-due due.Job k left h e = absurd (omega arith)
-row-due due.Row k left h e = (e, h)
-row-due due.Close k left h e = absurd (omega arith)
-row-due due.Nothing k left h e = absurd (omega arith)
+any-append : (test : ℕ → Bool) (l m : List ℕ) → any test l ≡ false → any test m ≡ false → any test (l ++ m) ≡ false
+unfolding any
+any-append test [] m e f = f
+any-append test (x ∷ l) m e f =
+    let (g, h) = both-false (test x) (any test l) e in
+    rw (g, any-append test l m h f)
+
+-- the tests of a form that is due, where its number is 0, and what has been read by then
+list-due : (d : Due) (p : Progress) (k : ℕ) → Stage d p → forDue d k 14 14 14 ≡ 0 → (k ≡ 0) × (p .sizes ≡ []) × (p .weights ≡ [])
+list-due due.List p k s e = (e, s .0, s .1)
+list-due due.Job p k s e = absurd (omega arith)
+list-due due.Row p k s e = absurd (omega arith)
+list-due due.Close p k s e = absurd (omega arith)
+list-due due.Nothing p k s e = absurd (omega arith)
+
+job-due : (d : Due) (p : Progress) (k : ℕ) → Stage d p → forDue d 14 k 14 14 ≡ 0 → (k ≡ 0) × (1 ≤ p .order) × (p .left ≡ 0)
+job-due due.List p k s e = absurd (omega arith)
+job-due due.Job p k s e = (e, s .0, s .1)
+job-due due.Row p k s e = absurd (omega arith)
+job-due due.Close p k s e = absurd (omega arith)
+job-due due.Nothing p k s e = absurd (omega arith)
+
+row-due : (d : Due) (p : Progress) (k : ℕ) → Stage d p → forDue d 14 14 k 14 ≡ 0 → (k ≡ 0) × (1 ≤ p .order) × (1 ≤ p .left)
+row-due due.List p k s e = absurd (omega arith)
+row-due due.Job p k s e = absurd (omega arith)
+row-due due.Row p k s e = (e, s .0, s .1)
+row-due due.Close p k s e = absurd (omega arith)
+row-due due.Nothing p k s e = absurd (omega arith)
 
 not-outside : (least most n : ℕ) → outside least most n ≡ false → (least ≤ n) × (n ≤ most)
 not-outside least most n e =
     let b : (ltb n least ≡ false) × (ltb most n ≡ false) = both-false (ltb n least) (ltb most n) e in
     (ltb-false n least (b .0), ltb-false most n (b .1))
 
-order-most : (n a : Token) → listTests n a ≡ 0 → valueOf n ≤ 32
-order-most n a e =
+order-range : (n a : Token) → listTests n a ≡ 0 → (1 ≤ valueOf n) × (valueOf n ≤ 32)
+order-range n a e =
     let range : ℕ = refuse (outside 1 32 (valueOf n)) 6 0 in
     let over : ℕ = refuse (isOver n) 15 range in
     let name : ℕ = refuse (not (isName a)) 14 over in
     let e₁ : name ≡ 0 = refuse-zero (not (isNumeral n)) 13 name e .1 in
     let e₂ : over ≡ 0 = refuse-zero (not (isName a)) 13 over e₁ .1 in
     let e₃ : range ≡ 0 = refuse-zero (isOver n) 14 range e₂ .1 in
-    not-outside 1 32 (valueOf n) (refuse-zero (outside 1 32 (valueOf n)) 5 0 e₃ .0) .1
+    not-outside 1 32 (valueOf n) (refuse-zero (outside 1 32 (valueOf n)) 5 0 e₃ .0)
 
-job-most : (order jobs : ℕ) (n : Token) → jobTests order jobs n ≡ 0 → ((1 ≤ valueOf n) × (valueOf n ≤ order)) × (jobs < 16)
+job-most : (order jobs : ℕ) (n : Token) → jobTests order jobs n ≡ 0 → (outside 1 order (valueOf n) ≡ false) × (jobs < 16)
 job-most order jobs n e =
     let last : ℕ = refuse (leb 16 jobs) 7 0 in
     let range : ℕ = refuse (outside 1 order (valueOf n)) 8 last in
@@ -79,42 +112,95 @@ job-most order jobs n e =
     let e₁ : over ≡ 0 = refuse-zero (not (isNumeral n)) 13 over e .1 in
     let e₂ : range ≡ 0 = refuse-zero (isOver n) 14 range e₁ .1 in
     let e₃ : (outside 1 order (valueOf n) ≡ false) × (last ≡ 0) = refuse-zero (outside 1 order (valueOf n)) 7 last e₂ in
-    (not-outside 1 order (valueOf n) (e₃ .0), leb-false 16 jobs (refuse-zero (leb 16 jobs) 6 0 (e₃ .1) .0))
+    (e₃ .0, leb-false 16 jobs (refuse-zero (leb 16 jobs) 6 0 (e₃ .1) .0))
 
-row-words : (a : Algebra) (size : ℕ) (ts : List Token) → rowTests a size ts ≡ 0 → length ts ≡ size
+row-words : (a : Algebra) (size : ℕ) (ts : List Token) → rowTests a size ts ≡ 0
+    → (length ts ≡ size) × (anyAbove (topOf a) (map (wordOf a) ts) ≡ false)
 row-words a size ts e =
     let above : ℕ = refuse (anyAbove (topOf a) (map (wordOf a) ts)) 5 0 in
     let count : ℕ = refuse (not (eqb (length ts) size)) 16 above in
     let over : ℕ = refuse (any (overIn a) ts) 15 count in
     let e₁ : over ≡ 0 = refuse-zero (any noWord ts) 13 over e .1 in
     let e₂ : count ≡ 0 = refuse-zero (any (overIn a) ts) 14 count e₁ .1 in
-    eqb-true (length ts) size (not-false (eqb (length ts) size) (refuse-zero (not (eqb (length ts) size)) 15 above e₂ .0))
+    let e₃ : (not (eqb (length ts) size) ≡ false) × (above ≡ 0) = refuse-zero (not (eqb (length ts) size)) 15 above e₂ in
+    (eqb-true (length ts) size (not-false (eqb (length ts) size) (e₃ .0)), refuse-zero (anyAbove (topOf a) (map (wordOf a) ts)) 4 0 (e₃ .1) .0)
 
-close-left : (d : Due) (left : ℕ) → RowLeft (dueAfterClose d) left
-close-left due.List left = tt
-close-left due.Job left = tt
-close-left due.Row left = tt
-close-left due.Close left = tt
-close-left due.Nothing left = tt
+close-stage : (d : Due) (p : Progress) → Stage d p → forDue d 14 (listEndTests (length (p .sizes))) 14 0 ≡ 0
+    → Stage (dueAfterClose d) (after p close)
+close-stage due.List p s e = absurd (omega arith)
+close-stage due.Job p s e =
+    (s .0, s .1, some (length (p .sizes)) (eqb-false (length (p .sizes)) 0 (refuse-zero (eqb (length (p .sizes)) 0) 6 0 e .0)))
+  where
+    some : (n : ℕ) → (n ≡ 0 → ⊥) → 1 ≤ n
+    some n h = omega arith
+close-stage due.Row p s e = absurd (omega arith)
+close-stage due.Close p s e = s
+close-stage due.Nothing p s e = absurd (omega arith)
 
-row-left : (left : ℕ) (b : Bool) → leb left 1 ≡ b → RowLeft (dueAfterRow left) (left - 1)
-row-left left true e = rw e tt
-row-left left false e = rw e (omega (arith, leb-false left 1 e))
+row-stage : (p q : Progress) (b : Bool) → leb (p .left) 1 ≡ b → 1 ≤ p .order → q .order ≡ p .order → q .left ≡ p .left - 1
+    → Stage (dueAfterRow (p .left)) q
+row-stage p q true e h o l = rw e (omega arith, omega (arith, leb-true (p .left) 1 e))
+row-stage p q false e h o l = rw e (omega arith, omega (arith, leb-false (p .left) 1 e))
 
 within-after : (p : Progress) (f : Form) → Within p → tests p f ≡ 0 → Within (after p f)
+unfolding squares any
 within-after p (list n a) w e =
-    let h : valueOf n ≤ 32 = order-most n a (list-due (p .due) (listTests n a) e) in
-    record { orders = h; points = omega arith; jobs = w .jobs; words = omega (arith, w .words); left-due = tt }
+    let (k, sizes, weights) = list-due (p .due) p (listTests n a) (w .stage) e in
+    let h : (1 ≤ valueOf n) × (valueOf n ≤ 32) = order-range n a k in
+    record {
+      orders = h .1;
+      points = omega arith;
+      jobs = w .jobs;
+      words = omega (arith, w .words);
+      due-words = rw (sizes, weights);
+      inside = rw sizes;
+      below = rw weights;
+      stage = (h .0, refl);
+    }
 within-after p (job n) w e =
-    let h : ((1 ≤ valueOf n) × (valueOf n ≤ p .order)) × (length (p .sizes) < 16) = job-most (p .order) (length (p .sizes)) n (job-due (p .due) (jobTests (p .order) (length (p .sizes)) n) e) in
-    let g : length (p .sizes ++ (valueOf n ∷ [])) ≡ length (p .sizes) + 1 = length-append (p .sizes) (valueOf n ∷ []) in
-    record { orders = w .orders; points = omega (arith, w .orders); jobs = omega arith; words = omega (arith, w .words, w .orders); left-due = h .0 .0 }
+    let (k, least, none) = job-due (p .due) p (jobTests (p .order) (length (p .sizes)) n) (w .stage) e in
+    let (range, few) = job-most (p .order) (length (p .sizes)) n k in
+    let (some, most) = not-outside 1 (p .order) (valueOf n) range in
+    let long : length (p .sizes ++ (valueOf n ∷ [])) ≡ length (p .sizes) + 1 = length-append (p .sizes) (valueOf n ∷ []) in
+    let nothing : p .left * p .size ≡ 0 = rw none (zero-mul (p .size)) in
+    record {
+      orders = w .orders;
+      points = omega (arith, w .orders);
+      jobs = omega arith;
+      words = omega (arith, w .words, w .orders);
+      due-words = omega (arith, squares-append (p .sizes) (valueOf n), w .due-words);
+      inside = any-append (outside 1 (p .order)) (p .sizes) (valueOf n ∷ []) (w .inside) (rw range);
+      below = w .below;
+      stage = (least, some);
+    }
 within-after p (row ts) w e =
-    let h : (rowTests (p .algebra) (p .size) ts ≡ 0) × (1 ≤ p .left) = row-due (p .due) (rowTests (p .algebra) (p .size) ts) (p .left) (w .left-due) e in
-    let g : length ts ≡ p .size = row-words (p .algebra) (p .size) ts (h .0) in
-    let l : length (p .weights ++ map (wordOf (p .algebra)) ts) ≡ length (p .weights) + length ts = length-append (p .weights) (map (wordOf (p .algebra)) ts) ∙ ap (λ (k : ℕ). length (p .weights) + k) (length-map ts (wordOf (p .algebra))) in
-    record { orders = w .orders; points = w .points; jobs = w .jobs; words = omega (arith, w .words, w .points); left-due = row-left (p .left) (leb (p .left) 1) refl }
-within-after p close w e = record { orders = w .orders; points = w .points; jobs = w .jobs; words = w .words; left-due = close-left (p .due) (p .left) }
+    let (k, least, some) = row-due (p .due) p (rowTests (p .algebra) (p .size) ts) (w .stage) e in
+    let (row-long, below) = row-words (p .algebra) (p .size) ts k in
+    let ws : List ℕ = map (wordOf (p .algebra)) ts in
+    let long : length (p .weights ++ ws) ≡ length (p .weights) + length ts =
+    length-append (p .weights) ws ∙ ap (λ (m : ℕ). length (p .weights) + m) (length-map ts (wordOf (p .algebra))) in
+    let less : p .left ≡ p .left - 1 + 1 = omega arith in
+    let one-less : p .left * p .size ≡ (p .left - 1 + 1) * p .size = ap (λ (m : ℕ). m * p .size) less in
+    record {
+      orders = w .orders;
+      points = w .points;
+      jobs = w .jobs;
+      words = omega (arith, w .words, w .points);
+      due-words = omega (arith, w .due-words);
+      inside = w .inside;
+      below = any-append (ltb (topOf (p .algebra))) (p .weights) ws (w .below) below;
+      stage = row-stage p (after p (row ts)) (leb (p .left) 1) refl least refl refl;
+    }
+within-after p close w e = record {
+  orders = w .orders;
+  points = w .points;
+  jobs = w .jobs;
+  words = w .words;
+  due-words = w .due-words;
+  inside = w .inside;
+  below = w .below;
+  stage = close-stage (p .due) p (w .stage) e;
+}
 within-after p unknown w e = w
 within-after p skipped w e = w
 
@@ -133,19 +219,30 @@ within-step p f w = at (tests p f) refl
 
 Fitting : Reading → Type 0
 Fitting (refused number line) = Unit {0}
-Fitting (accepted order algebra sizes weights) = (length sizes ≤ 16) × (length weights ≤ 16384)
+Fitting (accepted order algebra sizes weights) = Accepted order algebra sizes weights
 
-ended-fits : (d : Due) (line : ℕ) (p : Progress) → Within p → Fitting (ended d line p)
+ended-fits : (d : Due) (line : ℕ) (p : Progress) → Within p → Stage d p → Fitting (ended d line p)
 unfolding Fitting
-ended-fits due.List line p w = tt
-ended-fits due.Job line p w = tt
-ended-fits due.Row line p w = tt
-ended-fits due.Close line p w = tt
-ended-fits due.Nothing line p w = (w .jobs, omega (arith, w .jobs, w .words))
+ended-fits due.List line p w s = tt
+ended-fits due.Job line p w s = tt
+ended-fits due.Row line p w s = tt
+ended-fits due.Close line p w s = tt
+ended-fits due.Nothing line p w s =
+    let nothing : p .left * p .size ≡ 0 = rw (s .1) (zero-mul (p .size)) in
+    record {
+      order-least = s .0;
+      order-most = w .orders;
+      some = s .2;
+      few = w .jobs;
+      sizes-inside = w .inside;
+      words = omega (arith, w .due-words);
+      words-most = omega (arith, w .jobs, w .words);
+      none-above = w .below;
+    }
 
 follow-fits : (line : ℕ) (ls : List (List ℕ)) (t : Step) → WithinStep t → Fitting (follow line ls t)
 unfolding follow WithinStep Fitting
-follow-fits line [] (go p) w = ended-fits (p .due) line p w
+follow-fits line [] (go p) w = ended-fits (p .due) line p w (w .stage)
 follow-fits line [] (stop k) w = tt
 follow-fits line (l ∷ ls) (go p) w = follow-fits (suc line) ls (step p (formOf (parts l))) (within-step p (formOf (parts l)) w)
 follow-fits line (l ∷ ls) (stop k) w = tt

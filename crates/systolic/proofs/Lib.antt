@@ -1,4 +1,3 @@
-pub mod Cards
 pub mod Digits
 pub mod Registers
 pub mod Padding

@@ -6,4 +6,3 @@ pub mod Start
 pub mod Run
 pub mod Demand
 pub mod Corollaries
-pub mod Cards

@@ -4,7 +4,7 @@ use mathlib.Core.Path.{_≡_, refl, _∙_}
 use lib.ListN.{length, drop}
 use denote.Ref.{now}
 use borrow.Author.Needs.{needs}
-use Rattle.job_form.specs.Tokens.{decimal}
+use Rattle.memory.specs.Ascii.{decimal}
 use Rattle.job_form.proofs.Digits.{decimal-more, decimal-end, numeral-long, numeral-above, numeral-value}
 use Rattle.job_form.proofs.tokens.number.Statement.{statement}
 use Rattle.job_form.proofs.tokens.number.Tie as tie

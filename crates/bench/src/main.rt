@@ -1,0 +1,49 @@
+// The bench: a job text on standard input, its sheet on standard output. A read or a write that fails is told on standard
+// error; after a failed read nothing is printed.
+ghost use mathlib.Core.Path.{_≡_};
+ghost use Prim.Native.Nat.{_≤_};
+ghost use lib.ListN.{length};
+
+mod input;
+
+use input::read_all;
+use libc::STDOUT_FILENO;
+use sheet::print_sheet;
+
+// Room for a text at the limit and one byte more, so that a longer one can be told.
+fn text_room() -> [u8; 65537]
+    ensures { λ r. ⌜ length r ≡ 65537 ⌝ }
+{
+    [0u8; 65537]
+}
+
+// Room for every sheet.
+fn page_room() -> [u8; 426005]
+    ensures { λ r. ⌜ length r ≡ 426005 ⌝ }
+{
+    [0u8; 426005]
+}
+
+fn write(sheet: &[u8]) {
+    let written = io::write_all(STDOUT_FILENO, sheet);
+    if !written {
+        os::fail(b"write");
+    }
+}
+
+fn print(text: &[u8]) {
+    let mut page = page_room();
+    let n = print_sheet(text, &mut page);
+    write(&page[..n]);
+}
+
+fn main() {
+    let mut text = text_room();
+    let input = read_all(&mut text);
+    if input.failed {
+        os::fail(b"read");
+        return;
+    }
+    let n = input.bytes;
+    print(&text[..n]);
+}

@@ -1,0 +1,4 @@
+pub mod Joined
+pub mod Lengths
+pub mod Numerals
+pub mod Put

@@ -1,0 +1,5 @@
+pub mod Joined
+pub mod Numeral
+pub mod Numerals
+pub mod Page
+pub mod Put

@@ -1,0 +1,102 @@
+-- The sheet of an accepted text shows the elimination's words, each on the tick on which it leaves.
+use Prim.Native.Nat.{ℕ, _*_, _<_, _≤_}
+use native.Mathlib.Nat.{mul-le-mul-left}
+use native.Mathlib.Omega.{arith}
+use mathlib.Core.Path.{_≡_, refl, ap, _∙_}
+use mathlib.Core.List.{List, [], _∷_, _++_}
+use lib.ListN.{length, replicate, length-replicate}
+use native.Mathlib.Decide.{decLt}
+use borrow.Author.Tests.{le-ltb}
+use Rattle.semiring.specs.declared.Algebra.{Algebra}
+use Rattle.semiring.specs.Named.{numberOf}
+use Rattle.closure.proofs.Demand.{closure-best}
+use Rattle.systolic.specs.Jobs.{Jobs, count, size, wordsOf, jobWeights}
+use Rattle.systolic.specs.State.{total}
+use Rattle.systolic.specs.Start.{started}
+use Rattle.systolic.specs.Run.{Ran}
+use Rattle.systolic.specs.Demand.{Runs, runs, leaves, jobsOf}
+use Rattle.systolic.proofs.Padding.{job-words}
+use Rattle.systolic.proofs.Started.{started-fit}
+use Rattle.systolic.proofs.Demand.{started-claim}
+use Rattle.systolic.proofs.Corollaries.{past-word}
+use Rattle.job_text.specs.Whole.{Accepted}
+use Rattle.job_text.proofs.Whole.{whole}
+use Rattle.printing.specs.Joined.{joined}
+use Rattle.printing.proofs.Joined.{joined-same}
+use Rattle.sheet.specs.Lines.{Words, jobsLine, entryLine, rowLines, sheet}
+use Rattle.sheet.specs.Sheet.{wholeRun, resultWords, printed}
+use Rattle.sheet.specs.Demand.{closureWords, Entry, Demand-sheet}
+use Rattle.sheet.proofs.Rows.{Fits, row-empty, row-line}
+use Rattle.sheet.proofs.Run.{named, accepted-started, whole-made}
+
+-- A sheet reads no words but those of the jobs' entries.
+module _ (J : Jobs) (word word′ : Words) (same : (q i k : ℕ) → Entry J q i k → word q i k ≡ word′ q i k) where
+  entry-same : (t i q k : ℕ) → q < count J → k < size J q → entryLine J word t i q k ≡ entryLine J word′ t i q k
+  entry-same t i q k hq hk = by (decLt i (size J q))
+    where
+      by : Dec (i < size J q) → entryLine J word t i q k ≡ entryLine J word′ t i q k
+      by (yes h) = rw (same q i k (record { job = hq; row = h; column = hk }))
+      by (no h) = rw (le-ltb i (size J q) (omega arith))
+
+  sheet-same : (ticks : ℕ) → sheet J word ticks ≡ sheet J word′ ticks
+  unfolding sheet
+  sheet-same ticks =
+      ap (λ (l : List ℕ). jobsLine (count J) ticks ++ l)
+      (joined-same ticks (λ t. joined (J .order) (rowLines J word t)) (λ t. joined (J .order) (rowLines J word′ t))
+      (λ t ht.
+      joined-same (J .order) (rowLines J word t) (rowLines J word′ t)
+      (λ i hi.
+      joined-same (count J) (λ q. joined (size J q) (entryLine J word t i q)) (λ q. joined (size J q) (entryLine J word′ t i q))
+      (λ q hq. joined-same (size J q) (entryLine J word t i q) (entryLine J word′ t i q) (λ k hk. entry-same t i q k hq hk)))))
+
+-- The whole run is a list of one run.
+module _ {a : Algebra} {order : ℕ} {sizes weights : List ℕ} (list : Accepted order a sizes weights) where
+  abbrev J : Jobs
+  J = jobsOf a order sizes weights
+
+  fits : Fits J
+  fits =
+      let fit = started-fit (accepted-started list) in
+      record { least = fit .least; sizes = fit .sizes }
+
+  -- every entry leaves before the end
+  tick-within : {q i k : ℕ} → Entry J q i k → leaves J q i k < total order (length sizes)
+  tick-within {q} {i} {k} at =
+      let few : size J q ≤ order = fits .sizes q (at .job) in
+      let below = mul-le-mul-left (4 * order) (at .job) in
+      omega (arith, at .row, at .column, list .order-least)
+
+  -- what start left, and the results lent to the run
+  abbrev zeros : List ℕ
+  zeros = replicate (wordsOf sizes) 0
+
+  abbrev one : Runs
+  one =
+      runs sizes weights (record { allowance = 65535; scratch = replicate (2 * (order * order)) 0 } ∷ [])
+      (started (numberOf a) order sizes) zeros
+
+  word-is : (q i k : ℕ) → Entry J q i k → resultWords J (wholeRun a order sizes weights) q i k ≡ closureWords J q i k
+  unfolding runs
+  word-is q i k at =
+      past-word {J = J} {after = one}
+      (started-claim (accepted-started list) (numberOf a) (named a)
+      (record { allowance = 65535; scratch = replicate (2 * (order * order)) 0 } ∷ []) zeros)
+      (length-replicate {A = ℕ} (wordsOf sizes) 0)
+      (record { job = at .job; row = at .row; column = at .column; tick = omega (arith, tick-within at, whole-made list) })
+
+pub demand-sheet : Demand-sheet
+demand-sheet text order a sizes weights e =
+    let list : Accepted order a sizes weights = whole 16 16384 text order a sizes weights e in
+    let J : Jobs = jobsOf a order sizes weights in
+    let after : Ran = wholeRun a order sizes weights in
+    record {
+      words =
+          ap printed e
+          ∙ sheet-same J (resultWords J after) (closureWords J) (word-is list) (after .made)
+          ∙ ap (sheet J (closureWords J)) (whole-made list);
+      best = λ q i k at.
+          closure-best a (size J q) (jobWeights J q) (job-words (started-fit (accepted-started list)) q) (at .row) (at .column);
+      tick = λ q i k at. tick-within list at;
+      line = λ q i k at. row-line J (closureWords J) (leaves J q i k) i (fits list) at refl;
+      nothing = λ t i none. row-empty J (closureWords J) t i none;
+    }

@@ -1,0 +1,7 @@
+pub mod Cards
+pub mod Demand
+pub mod Leaving
+pub mod Room
+pub mod Rows
+pub mod Run
+pub mod Text

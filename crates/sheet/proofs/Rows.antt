@@ -1,0 +1,112 @@
+-- Which lines a row and a tick have: an entry's on the tick on which it leaves, and no other.
+use Prim.Native.Nat.{ℕ, _+_, _-_, _*_, _<_, _≤_}
+use native.Mathlib.Omega.{arith}
+use native.Mathlib.Decide.{decLt}
+use mathlib.Core.Path.{_≡_, sym, _∙_}
+use mathlib.Core.List.{List, []}
+use mathlib.Core.Bool.{and-false}
+use lib.ListN.{getD}
+use lib.Dec.{ltb}
+use borrow.Author.Tests.{lt-ltb, le-ltb, eq-eqb, ne-eqb, le-leb, lt-leb}
+use Rattle.systolic.specs.Jobs.{Jobs, count, size}
+use Rattle.systolic.specs.Demand.{leaves}
+use Rattle.systolic.proofs.Digits.{same-digits}
+use Rattle.printing.specs.Joined.{joined}
+use Rattle.printing.proofs.Joined.{joined-same, joined-less, joined-empty, joined-one}
+use Rattle.sheet.specs.Lines.{Words, outLine, entryLine, rowLines}
+use Rattle.sheet.specs.Demand.{Entry}
+use Rattle.sheet.specs.Leaving.{leavingLine}
+
+-- Jobs that fit the array.
+pub record Fits (J : Jobs) : Type 0 where
+  pub least : 1 ≤ J .order
+  pub sizes : (q : ℕ) → q < count J → size J q ≤ J .order
+
+-- An entry's tick tells its job and the sum of its row and column.
+pub leaves-digits : {J : Jobs} → Fits J → {q d q′ i k : ℕ} → d < 4 * J .order → Entry J q′ i k
+    → 4 * J .order * q + 4 * J .order - 1 + d ≡ leaves J q′ i k → (q ≡ q′) × (d ≡ i + k)
+leaves-digits {J} fits {q} {d} {q′} {i} {k} h at e =
+    let few : size J q′ ≤ J .order = fits .sizes q′ (at .job) in
+    same-digits {n = 4 * J .order} {x = q} {y = d} {x′ = q′} {y′ = i + k} h (omega (arith, at .row, at .column))
+    (omega (arith, fits .least))
+
+module _ (J : Jobs) (word : Words) (t i : ℕ) where
+  entry-empty : (q k : ℕ) → (i < size J q → t ≡ leaves J q i k → ⊥) → entryLine J word t i q k ≡ []
+  entry-empty q k none = by (decLt i (size J q))
+    where
+      by : Dec (i < size J q) → entryLine J word t i q k ≡ []
+      by (yes h) = rw (ne-eqb t (leaves J q i k) (none h), and-false (ltb i (size J q)))
+      by (no h) = rw (le-ltb i (size J q) (omega arith))
+
+  pub row-empty : ((q k : ℕ) → Entry J q i k → t ≡ leaves J q i k → ⊥) → rowLines J word t i ≡ []
+  row-empty none =
+      joined-empty (count J) (λ q. joined (size J q) (entryLine J word t i q))
+      (λ q hq.
+      joined-empty (size J q) (entryLine J word t i q)
+      (λ k hk. entry-empty q k (λ hi. none q k (record { job = hq; row = hi; column = hk }))))
+
+  pub row-line : Fits J → {q k : ℕ} → Entry J q i k → t ≡ leaves J q i k
+      → rowLines J word t i ≡ outLine (J .algebra q) q i k t (word q i k)
+  row-line fits {q} {k} at e =
+      joined-one (count J) (λ q′. joined (size J q′) (entryLine J word t i q′)) q (at .job)
+      (λ q′ hq d.
+      joined-empty (size J q′) (entryLine J word t i q′)
+      (λ k′ hk. entry-empty q′ k′ (λ hi f. d (sym (once q′ k′ (record { job = hq; row = hi; column = hk }) f .0)))))
+      ∙ joined-one (size J q) (entryLine J word t i q) k (at .column)
+      (λ k′ hk d.
+      entry-empty q k′
+      (λ hi f. let same = once q k′ (record { job = at .job; row = hi; column = hk }) f .1 in d (omega arith)))
+      ∙ rw (lt-ltb i (size J q) (at .row), eq-eqb t (leaves J q i k) e)
+    where
+      once : (q′ k′ : ℕ) → Entry J q′ i k′ → t ≡ leaves J q′ i k′ → (q ≡ q′) × (i + k ≡ i + k′)
+      once q′ k′ at′ f =
+          let few : size J q ≤ J .order = fits .sizes q (at .job) in
+          leaves-digits fits {q = q} {d = i + k} (omega (arith, at .row, at .column, fits .least)) at′ (omega arith)
+
+module _ (J : Jobs) (word : Words) (fits : Fits J) (t : ℕ) where
+  pub tick-early : t + 1 < 4 * J .order → joined (J .order) (rowLines J word t) ≡ []
+  tick-early h = joined-empty (J .order) (rowLines J word t) (λ i hi. row-empty J word t i (λ q k at e. omega arith))
+
+  module _ (q d : ℕ) (h : d < 4 * J .order) (e : t ≡ 4 * J .order * q + 4 * J .order - 1 + d) where
+    pub tick-late : count J ≤ q → joined (J .order) (rowLines J word t) ≡ []
+    tick-late late =
+        joined-empty (J .order) (rowLines J word t)
+        (λ i hi.
+        row-empty J word t i
+        (λ q′ k at f. let same = leaves-digits fits {q = q} h at (sym e ∙ f) .0 in omega (arith, at .job)))
+
+    -- the lines of the job whose entries leave
+    pub tick-now : q < count J → (part : List ℕ)
+        → ((i k : ℕ) → i < size J q → k < size J q → getD part (i * size J q + k) 0 ≡ word q i k)
+        → joined (J .order) (rowLines J word t)
+        ≡ joined (size J q) (leavingLine (J .algebra q) (record { job = q; size = size J q; sum = d; tick = t }) part)
+    tick-now job part same =
+        joined-less (J .order) (size J q) (rowLines J word t) (fits .sizes q job)
+        (λ i above below. row-empty J word t i (λ q′ k at f. outside i q′ k above at f))
+        ∙ joined-same (size J q) (rowLines J word t) line (λ i hi. row i hi (decLt d i) (decLt (d - i) (size J q)))
+      where
+        line : ℕ → List ℕ
+        line = leavingLine (J .algebra q) (record { job = q; size = size J q; sum = d; tick = t }) part
+
+        outside : (i q′ k : ℕ) → size J q ≤ i → Entry J q′ i k → t ≡ leaves J q′ i k → ⊥
+        outside i q′ k above at f =
+            let same : q ≡ q′ = leaves-digits fits {q = q} h at (sym e ∙ f) .0 in
+            let row : i < size J q = rw same (at .row) in
+            omega arith
+
+        nothing : (i : ℕ) → (i ≤ d → d - i < size J q → ⊥) → rowLines J word t i ≡ []
+        nothing i none =
+            row-empty J word t i
+            (λ q′ k at f.
+            let (same, sum) = leaves-digits fits {q = q} h at (sym e ∙ f) in
+            let column : k < size J q = rw same (at .column) in
+            none (omega arith) (omega arith))
+
+        row : (i : ℕ) → i < size J q → Dec (d < i) → Dec (d - i < size J q) → rowLines J word t i ≡ line i
+        row i hi (yes a) b = nothing i (λ x y. omega arith) ∙ rw (lt-leb i d a)
+        row i hi (no a) (no b) =
+            nothing i (λ x y. omega arith)
+            ∙ rw (le-leb i d (omega arith), le-ltb (d - i) (size J q) (omega arith))
+        row i hi (no a) (yes b) =
+            row-line J word t i fits (record { job = job; row = hi; column = b }) (omega arith)
+            ∙ rw (le-leb i d (omega arith), lt-ltb (d - i) (size J q) b, same i (d - i) hi b)

@@ -1,0 +1,6 @@
+pub mod Cards
+pub mod Demand
+pub mod Leaving
+pub mod Lent
+pub mod Lines
+pub mod Sheet

@@ -1,0 +1,50 @@
+-- Document 01, "Job text and bench program": the lines of a sheet.
+use Prim.Native.Nat.{ℕ, _+_, _*_}
+use mathlib.Core.List.{List, [], _∷_, _++_}
+use mathlib.Core.Bool.{Bool, true, false, cond, _&&_}
+use lib.Dec.{eqb, ltb}
+use Rattle.memory.specs.Ascii.{ascii}
+use Rattle.semiring.specs.Algebra.{noneOf}
+use Rattle.semiring.specs.declared.Algebra.{Algebra}
+use Rattle.semiring.specs.declared.Algebra.the-variants.{Reach, Distance, Steepest}
+use Rattle.systolic.specs.Jobs.{Jobs, count, size}
+use Rattle.systolic.specs.Demand.{leaves}
+use Rattle.printing.specs.Joined.{joined}
+use Rattle.printing.specs.Numeral.{shown}
+
+-- "A refusal prints only `(refused 14 3)`: number, line."
+abbrev pub refusedLine : ℕ → ℕ → List ℕ
+refusedLine number line = ascii "(refused " ++ shown number ++ ascii " " ++ shown line ++ ascii ")\n"
+
+-- "First line: jobs, ticks made."
+abbrev pub jobsLine : ℕ → ℕ → List ℕ
+jobsLine jobs ticks = ascii "(jobs " ++ shown jobs ++ ascii " ticks " ++ shown ticks ++ ascii ")\n"
+
+-- "none as `-` outside reach"
+abbrev pub shownWord : Algebra → ℕ → List ℕ
+shownWord Reach w = shown w
+shownWord Distance w = cond (eqb w (noneOf Distance)) (ascii "-") (shown w)
+shownWord Steepest w = cond (eqb w (noneOf Steepest)) (ascii "-") (shown w)
+
+-- "Then job, row, column, tick, word"
+abbrev pub outLine : Algebra → ℕ → ℕ → ℕ → ℕ → ℕ → List ℕ
+outLine a q i k t w =
+    ascii "(out " ++ shown q ++ ascii " " ++ shown i ++ ascii " " ++ shown k ++ ascii " " ++ shown t ++ ascii " " ++ shownWord a w
+    ++ ascii ")\n"
+
+-- The words printed: entry (i, k) of job q.
+abbrev pub Words : Type 0
+Words = ℕ → ℕ → ℕ → ℕ
+
+module _ (J : Jobs) (word : Words) where
+  -- The line of entry (i, k) of job q, if it leaves on tick t.
+  abbrev pub entryLine : ℕ → ℕ → ℕ → ℕ → List ℕ
+  entryLine t i q k = cond (ltb i (size J q) && eqb t (leaves J q i k)) (outLine (J .algebra q) q i k t (word q i k)) []
+
+  -- What leaves from row i on tick t.
+  abbrev pub rowLines : ℕ → ℕ → List ℕ
+  rowLines t i = joined (count J) (λ q. joined (size J q) (entryLine t i q))
+
+  -- "by tick, then row"
+  unfoldable pub sheet : ℕ → List ℕ
+  sheet ticks = jobsLine (count J) ticks ++ joined ticks (λ t. joined (J .order) (rowLines t))

@@ -1,0 +1,75 @@
+// The printed sheet of a job text: a refusal, or the jobs' words in the order in which they leave the array.
+ghost use mathlib.Core.Path.{_≡_};
+ghost use Prim.Native.Nat.{min};
+ghost use lib.ListN.{length};
+ghost use Rattle.printing.specs.Page.{overwritten};
+ghost use Rattle.printing.specs.Put.{Put};
+ghost use Rattle.sheet.specs.Sheet.{sheetOf};
+
+mod jobs;
+mod lines;
+mod list;
+mod ticks;
+
+use job_text::Read;
+use job_text::read;
+use jobs::words_before;
+use lines::put_refused;
+use list::print_list;
+
+// With buffers for the text's sizes and weights.
+fn print_text(text: &[u8], page: &mut [u8], sizes: &mut [u16], weights: &mut [u16]) -> usize
+    requires { ⌜ (length (now sizes) ≡ 16) × (length (now weights) ≡ 16384) ⌝ }
+    ensures { λ r. ⌜ Put (now (page .entry)) 0 (sheetOf (now (text .entry))) (now (page .exit)) r ⌝ }
+{
+    let answer = read(text, sizes, weights);
+    match answer {
+        Read::List {
+            order,
+            algebra,
+            jobs,
+        } => {
+            let count = jobs as usize;
+            let words = words_before(&sizes[..count], count);
+            print_list(
+                page,
+                algebra,
+                order as usize,
+                &sizes[..count],
+                &weights[..words],
+            )
+        }
+        Read::Refused { number, line } => put_refused(page, number, line),
+    }
+}
+
+fn size_room() -> [u16; 16]
+    ensures { λ r. ⌜ length r ≡ 16 ⌝ }
+{
+    [0u16; 16]
+}
+
+fn weight_room() -> [u16; 16384]
+    ensures { λ r. ⌜ length r ≡ 16384 ⌝ }
+{
+    [0u16; 16384]
+}
+
+// Prints the sheet of a job text on a page from its first byte on, as much of it as there is room for, and answers how many bytes.
+pub fn print_sheet(text: &[u8], page: &mut [u8]) -> usize
+    ensures outcome { λ r. ⌜ r ≡ min (length (now (page .entry))) (length (sheetOf (now (text .entry)))) ⌝ }
+    ensures memory { λ _. ⌜ now (page .exit) ≡ overwritten (sheetOf (now (text .entry))) (now (page .entry)) ⌝ }
+{
+    let mut sizes = size_room();
+    let mut weights = weight_room();
+    print_text(text, page, &mut sizes, &mut weights)
+}
+
+// The same for hosts in other languages.
+#[no_mangle]
+pub extern "C" fn sheet_print(text: &[u8], page: &mut [u8]) -> usize
+    ensures outcome { λ r. ⌜ r ≡ min (length (now (page .entry))) (length (sheetOf (now (text .entry)))) ⌝ }
+    ensures memory { λ _. ⌜ now (page .exit) ≡ overwritten (sheetOf (now (text .entry))) (now (page .entry)) ⌝ }
+{
+    print_sheet(text, page)
+}

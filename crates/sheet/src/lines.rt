@@ -1,0 +1,80 @@
+// The lines of a sheet.
+ghost use mathlib.Core.Bool.{cond};
+ghost use lib.Dec.{eqb};
+ghost use Rattle.memory.specs.Ascii.{ascii};
+ghost use Rattle.printing.specs.Numeral.{shown};
+ghost use Rattle.printing.specs.Put.{Put};
+ghost use Rattle.sheet.specs.Lines.{refusedLine, jobsLine, shownWord, outLine};
+use printing::put_number;
+use printing::put_text;
+use semiring::Algebra;
+use semiring::Distance;
+use semiring::Steepest;
+
+// An entry of a job, and the tick on which it leaves.
+pub struct Entry {
+    pub job: u32,
+    pub row: u32,
+    pub column: u32,
+    pub tick: u32,
+}
+
+// The line of a refusal, which is the whole sheet.
+pub fn put_refused(page: &mut [u8], number: u16, line: u32) -> usize
+    ensures { λ r. ⌜ Put (now (page .entry)) 0 (refusedLine number line) (now (page .exit)) r ⌝ }
+{
+    let at = put_text(page, 0, b"(refused ");
+    let at = put_number(page, at, number as u32);
+    let at = put_text(page, at, b" ");
+    let at = put_number(page, at, line);
+    put_text(page, at, b")\n")
+}
+
+// The first line: jobs, ticks made.
+pub fn put_jobs(page: &mut [u8], jobs: u32, ticks: u32) -> usize
+    ensures { λ r. ⌜ Put (now (page .entry)) 0 (jobsLine jobs ticks) (now (page .exit)) r ⌝ }
+{
+    let at = put_text(page, 0, b"(jobs ");
+    let at = put_number(page, at, jobs);
+    let at = put_text(page, at, b" ticks ");
+    let at = put_number(page, at, ticks);
+    put_text(page, at, b")\n")
+}
+
+// A word, or `-` where it is the none word given.
+fn put_unless(page: &mut [u8], at: usize, none: u16, word: u16) -> usize
+    ensures { λ r. ⌜ Put (now (page .entry)) at (cond (eqb word none) (ascii "-") (shown word)) (now (page .exit)) r ⌝ }
+{
+    if word == none {
+        return put_text(page, at, b"-");
+    }
+    put_number(page, at, word as u32)
+}
+
+// None is `-` outside reach.
+fn put_word(page: &mut [u8], at: usize, algebra: Algebra, word: u16) -> usize
+    ensures { λ r. ⌜ Put (now (page .entry)) at (shownWord algebra word) (now (page .exit)) r ⌝ }
+{
+    match algebra {
+        Algebra::Reach => put_number(page, at, word as u32),
+        Algebra::Distance => put_unless(page, at, Distance::NONE, word),
+        Algebra::Steepest => put_unless(page, at, Steepest::NONE, word),
+    }
+}
+
+// The line of an entry and its word.
+pub fn put_entry(page: &mut [u8], at: usize, algebra: Algebra, e: Entry, word: u16) -> usize
+    ensures { λ r. ⌜ Put (now (page .entry)) at (outLine algebra (e .job) (e .row) (e .column) (e .tick) word) (now (page .exit)) r ⌝ }
+{
+    let at = put_text(page, at, b"(out ");
+    let at = put_number(page, at, e.job);
+    let at = put_text(page, at, b" ");
+    let at = put_number(page, at, e.row);
+    let at = put_text(page, at, b" ");
+    let at = put_number(page, at, e.column);
+    let at = put_text(page, at, b" ");
+    let at = put_number(page, at, e.tick);
+    let at = put_text(page, at, b" ");
+    let at = put_word(page, at, algebra, word);
+    put_text(page, at, b")\n")
+}

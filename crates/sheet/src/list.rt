@@ -1,0 +1,93 @@
+// The sheet of a list that was read: its jobs started, run once to the end, and printed.
+ghost use mathlib.Core.Path.{_≡_};
+ghost use lib.ListN.{length};
+ghost use Rattle.systolic.specs.Demand.{jobsOf};
+ghost use Rattle.job_text.specs.Whole.{Accepted};
+ghost use Rattle.printing.specs.Put.{Put};
+ghost use Rattle.sheet.specs.Lent.{Lent};
+ghost use Rattle.sheet.specs.Sheet.{wholeRun, sheetFrom};
+use crate::lines::put_jobs;
+use crate::ticks::put_ticks;
+use array::RunAnswer;
+use array::StartAnswer;
+use array::run;
+use array::start;
+use memory::clear;
+use semiring::Algebra;
+use semiring::number;
+
+// With memory of the array's lengths. A list that was read is never refused.
+fn print_run(
+    page: &mut [u8],
+    algebra: Algebra,
+    order: usize,
+    sizes: &[u16],
+    weights: &[u16],
+    state: &mut [u16],
+    scratch: &mut [u16],
+    results: &mut [u16],
+) -> usize
+    requires { ⌜ Accepted order algebra (now sizes) (now weights) ⌝ }
+    requires { ⌜ Lent order (now sizes) (now state) (now scratch) (now results) ⌝ }
+    ensures { λ r. ⌜ Put (now (page .entry)) 0
+        (sheetFrom (jobsOf algebra order (now (sizes .entry)) (now (weights .entry))) (wholeRun algebra order (now (sizes .entry)) (now (weights .entry))))
+        (now (page .exit)) r ⌝ }
+{
+    let StartAnswer::Done = start(number(algebra), order, sizes, weights, state) else {
+        return 0;
+    };
+    clear(results);
+    let RunAnswer::Made(ticks) = run(state, sizes, weights, 65535, scratch, results) else {
+        return 0;
+    };
+    let at = put_jobs(page, sizes.len() as u32, ticks as u32);
+    put_ticks(page, at, algebra, order, sizes, results, ticks as usize)
+}
+
+fn state_room() -> [u16; 3076]
+    ensures { λ r. ⌜ length r ≡ 3076 ⌝ }
+{
+    [0u16; 3076]
+}
+
+fn scratch_room() -> [u16; 2048]
+    ensures { λ r. ⌜ length r ≡ 2048 ⌝ }
+{
+    [0u16; 2048]
+}
+
+fn results_room() -> [u16; 16384]
+    ensures { λ r. ⌜ length r ≡ 16384 ⌝ }
+{
+    [0u16; 16384]
+}
+
+pub fn print_list(
+    page: &mut [u8],
+    algebra: Algebra,
+    order: usize,
+    sizes: &[u16],
+    weights: &[u16],
+) -> usize
+    requires { ⌜ Accepted order algebra (now sizes) (now weights) ⌝ }
+    ensures { λ r. ⌜ Put (now (page .entry)) 0
+        (sheetFrom (jobsOf algebra order (now (sizes .entry)) (now (weights .entry))) (wholeRun algebra order (now (sizes .entry)) (now (weights .entry))))
+        (now (page .exit)) r ⌝ }
+{
+    let mut state = state_room();
+    let mut scratch = scratch_room();
+    let mut results = results_room();
+    let state_words = 4 + 3 * (order * order);
+    let scratch_words = 2 * (order * order);
+    let words = weights.len();
+    print_run(
+        page,
+        algebra,
+        order,
+        sizes,
+        weights,
+        &mut state[..state_words],
+        &mut scratch[..scratch_words],
+        &mut results[..words],
+    )
+}
