@@ -1,5 +1,6 @@
-// Links libpaths.a, the archive of the proved elimination: from the folder that RAUDVISK_ARCHIVES names, else from
-// target/staticlib of the repository.
+// Links the archives of the proved crates, libpaths.a and libsheet.a: from the folder that RAUDVISK_ARCHIVES names, else
+// from target/staticlib of the repository. Without them all is built nevertheless, since compare_bench and most tests
+// need none; what calls an archive stops at its first call and says so.
 use std::env;
 use std::path::{Path, PathBuf};
 
@@ -9,15 +10,21 @@ fn main() {
         Some(folder) => PathBuf::from(folder),
         None => Path::new(&package).join("../target/staticlib"),
     };
-    let archive = folder.join("libpaths.a");
-    assert!(
-        archive.exists(),
-        "no {}: build the archive first, or name its folder in RAUDVISK_ARCHIVES",
-        archive.display()
-    );
-    // A new archive is linked anew, so that no run tests an old one.
     println!("cargo:rerun-if-env-changed=RAUDVISK_ARCHIVES");
-    println!("cargo:rerun-if-changed={}", archive.display());
     println!("cargo:rustc-link-search=native={}", folder.display());
-    println!("cargo:rustc-link-lib=static=paths");
+    for name in ["paths", "sheet"] {
+        let archive = folder.join(format!("lib{name}.a"));
+        // A new archive is linked anew, so that no run tests an old one.
+        println!("cargo:rerun-if-changed={}", archive.display());
+        println!("cargo:rustc-check-cfg=cfg({name}_archive)");
+        if archive.exists() {
+            println!("cargo:rustc-cfg={name}_archive");
+            println!("cargo:rustc-link-lib=static={name}");
+        } else {
+            println!(
+                "cargo:warning=no {}: see README, Benchmark",
+                archive.display()
+            );
+        }
+    }
 }

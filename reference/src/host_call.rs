@@ -1,6 +1,7 @@
 //! The C call of the proved elimination, and words as its bytes. Nothing checks the declaration here against the
 //! source there: it has to be kept like host/paths.h by hand.
 
+#[cfg(paths_archive)]
 extern "C" {
     fn paths_eliminate(
         algebra: u32,
@@ -13,6 +14,7 @@ extern "C" {
 }
 
 /// Returns 0, or the number of the refusal.
+#[cfg(paths_archive)]
 pub fn eliminate(algebra: u32, size: usize, weights: &[u8], result: &mut [u8]) -> u32 {
     // SAFETY: each pointer goes with its own slice's length, a slice's pointer is never null, and a slice that is
     // lent mutably overlaps no other. The call has no other demand: it refuses what it cannot take.
@@ -26,6 +28,12 @@ pub fn eliminate(algebra: u32, size: usize, weights: &[u8], result: &mut [u8]) -
             result.len(),
         )
     }
+}
+
+/// In a build that found no archive.
+#[cfg(not(paths_archive))]
+pub fn eliminate(_: u32, _: usize, _: &[u8], _: &mut [u8]) -> u32 {
+    panic!("built without libpaths.a: build the archive first, or name its folder in RAUDVISK_ARCHIVES")
 }
 
 /// Two bytes a word, low byte first.

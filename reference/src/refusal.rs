@@ -13,15 +13,13 @@ pub fn refusal(
     result_len: usize,
     weights: &[u8],
 ) -> u32 {
-    // Wide enough for the square of any size.
-    let wanted = 2 * (size as u128) * (size as u128);
     if algebra > 2 {
         1
     } else if size == 0 || size > MAX_SIZE {
         2
-    } else if weights_len as u128 != wanted {
+    } else if weights_len != 2 * size * size {
         3
-    } else if result_len as u128 != wanted {
+    } else if result_len != 2 * size * size {
         4
     } else if algebra == 0
         && weights

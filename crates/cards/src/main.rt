@@ -1,6 +1,7 @@
 // The bench cards of document 01, run: one line for each.
 mod array_cards;
 mod limit_cards;
+mod listing_card;
 mod table_cards;
 mod verdict;
 
@@ -15,6 +16,7 @@ fn main() {
     tell(b"B6: ", table_cards::longest());
     tell(b"B7: ", table_cards::too_long());
     tell(b"B8: ", array_cards::one_cell());
+    tell(b"B9: ", listing_card::listing());
     tell(b"B10: ", array_cards::two_jobs());
     tell(b"B11: ", limit_cards::all());
     tell(b"elimination, last pass: ", table_cards::last_pass());

@@ -23,3 +23,17 @@ pub fn same(words: &[u16], expected: &[u16]) -> bool {
     }
     true
 }
+
+pub fn begins(page: &[u8], text: &[u8]) -> bool {
+    if page.len() < text.len() {
+        return false;
+    }
+    let mut p = 0;
+    while p < text.len() {
+        if page[p] != text[p] {
+            return false;
+        }
+        p += 1;
+    }
+    true
+}

@@ -1,0 +1,51 @@
+//! What document 01 says of a whole run in formulas, to hold the array of `systolic` against: when each word leaves,
+//! and which word it is.
+
+use crate::elimination::eliminate;
+use crate::job_text::JobList;
+use crate::systolic::{Leaving, Outcome};
+
+/// Says what is wrong with the outcome.
+pub fn check(list: &JobList, outcome: &Outcome) -> Result<(), String> {
+    let (n, q) = (usize::from(list.order), list.sizes.len());
+    let total = 4 * n * q + 2 * n - 2;
+    if outcome.ticks != total {
+        return Err(format!("{} ticks made, wanted {total}", outcome.ticks));
+    }
+    let place = |leaving: &Leaving| (leaving.job, leaving.row, leaving.column);
+    let mut leavings = outcome.leavings.clone();
+    leavings.sort_by_key(place);
+    if leavings != wanted_leavings(list) {
+        return Err("words leave on other ticks than 4Nq + 4N - 1 + i + k".to_string());
+    }
+    if outcome.results != eliminations(list) {
+        return Err("the results are not the words of the eliminations".to_string());
+    }
+    Ok(())
+}
+
+/// Every entry of every job once, job by job and row by row.
+fn wanted_leavings(list: &JobList) -> Vec<Leaving> {
+    let n = usize::from(list.order);
+    let mut leavings = Vec::new();
+    for (job, &size) in list.sizes.iter().enumerate() {
+        for row in 0..usize::from(size) {
+            for column in 0..usize::from(size) {
+                leavings.push(Leaving {
+                    job,
+                    row,
+                    column,
+                    tick: 4 * n * job + 4 * n - 1 + row + column,
+                });
+            }
+        }
+    }
+    leavings
+}
+
+/// Each job eliminated by itself and not padded.
+fn eliminations(list: &JobList) -> Vec<u16> {
+    let jobs = list.jobs().into_iter();
+    jobs.flat_map(|(size, weights)| eliminate(list.algebra, size, weights))
+        .collect()
+}

@@ -1,0 +1,45 @@
+//! The bench program as a process: a text in at standard input, bytes out at standard output.
+
+use std::io::{self, Read, Write};
+use std::path::Path;
+use std::process::{ChildStdin, Command, Stdio};
+use std::thread;
+use std::time::Duration;
+
+/// Between two pieces of a text, so that the program may meet the first one alone.
+const PAUSE: Duration = Duration::from_micros(300);
+
+/// What the program prints for a text that comes in `pieces` pieces. Its exit status is not looked at, as document 01
+/// says nothing of one, but an end by a signal is an error.
+pub fn printed(program: &Path, text: &[u8], pieces: usize) -> io::Result<Vec<u8>> {
+    let mut child = Command::new(program)
+        .stdin(Stdio::piped())
+        .stdout(Stdio::piped())
+        .stderr(Stdio::null())
+        .spawn()?;
+    let stdin = child.stdin.take().expect("standard input is piped");
+    let mut stdout = child.stdout.take().expect("standard output is piped");
+    let mut bytes = Vec::new();
+    // The text is written beside the reading, so that neither side can wait for the other for ever.
+    thread::scope(|scope| {
+        scope.spawn(|| write(stdin, text, pieces));
+        stdout.read_to_end(&mut bytes)
+    })?;
+    match child.wait()?.code() {
+        Some(_) => Ok(bytes),
+        None => Err(io::Error::other("the program was ended by a signal")),
+    }
+}
+
+/// An error here only says that the program reads no further, which it may do: what it prints is compared.
+fn write(mut stdin: ChildStdin, text: &[u8], pieces: usize) {
+    let len = text.len().div_ceil(pieces).max(1);
+    for (at, piece) in text.chunks(len).enumerate() {
+        if at > 0 {
+            thread::sleep(PAUSE);
+        }
+        if stdin.write_all(piece).is_err() {
+            return;
+        }
+    }
+}

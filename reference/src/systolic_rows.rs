@@ -1,0 +1,238 @@
+//! The same array for the benchmark: planes of words, swept in place row by row from the last to the first, with loops
+//! that the compiler may turn into vector code. As in the calls Start and Run, the jobs are lent to each run anew.
+
+use crate::algebra::Algebra;
+use std::ops::Range;
+
+pub struct RowArray {
+    n: usize,
+    algebra: Algebra,
+    jobs: usize,
+    tick: usize,
+    c: Vec<u16>,
+    /// A row has a word before its cells: what comes in at the left edge.
+    a: Vec<u16>,
+    /// There is a row before those of the cells: what comes in at the top edge.
+    b: Vec<u16>,
+}
+
+/// The jobs lent to a run, with the place in the weights and the results where each begins.
+pub struct Lent<'a> {
+    pub sizes: &'a [u16],
+    pub starts: &'a [usize],
+    pub weights: &'a [u16],
+}
+
+/// A cell's s, divided by N: the quotient counts the passes of all jobs, the remainder is k.
+#[derive(Clone, Copy)]
+struct Step {
+    passes: usize,
+    k: usize,
+}
+
+impl Step {
+    fn job(self) -> usize {
+        self.passes / 4
+    }
+
+    fn pass(self) -> usize {
+        self.passes % 4
+    }
+
+    /// Where s is smaller by `by`, which is below N and not above s.
+    fn before(self, n: usize, by: usize) -> Step {
+        match by <= self.k {
+            true => Step {
+                k: self.k - by,
+                ..self
+            },
+            false => Step {
+                passes: self.passes - 1,
+                k: self.k + n - by,
+            },
+        }
+    }
+}
+
+impl RowArray {
+    /// The arguments are not tested, here nor in `run`.
+    pub fn start(order: usize, algebra: Algebra, jobs: usize) -> RowArray {
+        RowArray {
+            n: order,
+            algebra,
+            jobs,
+            tick: 0,
+            c: vec![0; order * order],
+            a: vec![0; order * (order + 1)],
+            b: vec![0; (order + 1) * order],
+        }
+    }
+
+    /// As started, in the same memory.
+    pub fn restart(&mut self) {
+        self.tick = 0;
+        self.c.fill(0);
+        self.a.fill(0);
+        self.b.fill(0);
+    }
+
+    /// Returns the ticks made.
+    pub fn run(&mut self, allowance: usize, lent: &Lent, results: &mut [u16]) -> usize {
+        let total = 4 * self.n * self.jobs + 2 * self.n - 2;
+        let ticks = allowance.min(total - self.tick);
+        // One match here, and none in the loops: each arm is compiled for its own sum and product.
+        match self.algebra {
+            Algebra::Reach => self.ticks(ticks, lent, results, u16::max, u16::min),
+            Algebra::Distance => self.ticks(ticks, lent, results, u16::min, u16::saturating_add),
+            Algebra::Steepest => self.ticks(ticks, lent, results, u16::min, u16::max),
+        }
+        ticks
+    }
+
+    fn ticks(
+        &mut self,
+        ticks: usize,
+        lent: &Lent,
+        results: &mut [u16],
+        sum: impl Fn(u16, u16) -> u16 + Copy,
+        product: impl Fn(u16, u16) -> u16 + Copy,
+    ) {
+        for _ in 0..ticks {
+            let top = Step {
+                passes: self.tick / self.n,
+                k: self.tick % self.n,
+            };
+            self.feed_top(lent, top);
+            for i in (0..self.n.min(self.tick + 1)).rev() {
+                let columns = self.working(i);
+                if !columns.is_empty() {
+                    let step = top.before(self.n, i);
+                    self.feed_left(lent, i, step);
+                    self.sum_row(i, step, columns.clone(), sum, product);
+                    self.shift_row(i, step, columns.clone());
+                    self.send_out(lent, i, step, columns, results);
+                }
+            }
+            self.tick += 1;
+        }
+    }
+
+    /// The columns of the cells in row i that make a step on this tick, which is not below i.
+    fn working(&self, i: usize) -> Range<usize> {
+        let s = self.tick - i;
+        let first = (s + 1).saturating_sub(4 * self.n * self.jobs);
+        first..self.n.min(s + 1)
+    }
+
+    /// Into the row above the cells; the bottom row still holds the words of before the tick.
+    fn feed_top(&mut self, lent: &Lent, top: Step) {
+        let n = self.n;
+        for j in self.working(0) {
+            let step = top.before(n, j);
+            self.b[j] = match step.pass() {
+                0 => self.fed(lent, step.job(), step.k, j),
+                _ => self.b[n * n + j],
+            };
+        }
+    }
+
+    /// Into the word before row i. From 4NQ on the first cell takes nothing in.
+    fn feed_left(&mut self, lent: &Lent, i: usize, step: Step) {
+        let (n, row) = (self.n, i * (self.n + 1));
+        self.a[row] = match step.pass() {
+            0 if step.job() < self.jobs => self.fed(lent, step.job(), i, step.k),
+            _ => self.a[row + n],
+        };
+    }
+
+    fn fed(&self, lent: &Lent, job: usize, i: usize, j: usize) -> u16 {
+        let size = usize::from(lent.sizes[job]);
+        if i == j {
+            self.algebra.own()
+        } else if i < size && j < size {
+            lent.weights[lent.starts[job] + i * size + j]
+        } else {
+            self.algebra.none()
+        }
+    }
+
+    /// c of the cells of row i, whose first cell is at `step`; the rows below have gone before. What comes in to a cell
+    /// lies before it in its row of `a`, and above it in `b`.
+    #[inline(always)]
+    fn sum_row(
+        &mut self,
+        i: usize,
+        step: Step,
+        columns: Range<usize>,
+        sum: impl Fn(u16, u16) -> u16,
+        product: impl Fn(u16, u16) -> u16,
+    ) {
+        let n = self.n;
+        let c = &mut self.c[i * n..(i + 1) * n];
+        let a = &self.a[i * (n + 1)..(i + 1) * (n + 1)];
+        let above = &self.b[i * n..(i + 1) * n];
+        // s falls along the row: in column k a pass begins, and the cells after it are one pass behind. Where the first
+        // cells have ended, those left are all behind.
+        if step.pass() == 0 && columns.contains(&step.k) {
+            c[step.k] = self.algebra.none();
+        }
+        let behind = columns.end.min(step.k + 1);
+        let sums = match step.pass() {
+            0 => columns.start..behind,
+            3 => behind..columns.end,
+            _ => columns,
+        };
+        let ins = a[sums.clone()].iter().zip(&above[sums.clone()]);
+        for (c, (&a, &b)) in c[sums].iter_mut().zip(ins) {
+            *c = sum(*c, product(a, b));
+        }
+    }
+
+    /// a and b of the cells of row i, whose c is new.
+    fn shift_row(&mut self, i: usize, step: Step, columns: Range<usize>) {
+        let n = self.n;
+        let c = &self.c[i * n..(i + 1) * n];
+        let a = &mut self.a[i * (n + 1)..(i + 1) * (n + 1)];
+        let (above, b) = self.b[i * n..(i + 2) * n].split_at_mut(n);
+        a.copy_within(columns.clone(), columns.start + 1);
+        b[columns.clone()].copy_from_slice(&above[columns.clone()]);
+        // A cell's own k is its column in those with 2j = k modulo N.
+        for twice in [step.k, step.k + n] {
+            let j = twice / 2;
+            if twice % 2 == 0 && columns.contains(&j) {
+                a[j + 1] = c[j];
+            }
+        }
+        // A cell's own k is its row in one column.
+        let j = if i <= step.k {
+            step.k - i
+        } else {
+            step.k + n - i
+        };
+        if columns.contains(&j) && step.before(n, j).pass() < 3 {
+            b[j] = c[j];
+        }
+    }
+
+    /// The last cell's new a, if it leaves and lies inside the job's size.
+    fn send_out(
+        &self,
+        lent: &Lent,
+        i: usize,
+        step: Step,
+        columns: Range<usize>,
+        results: &mut [u16],
+    ) {
+        let n = self.n;
+        if columns.end < n {
+            return;
+        }
+        let last = step.before(n, n - 1);
+        if last.pass() == 3 {
+            let (size, k) = (usize::from(lent.sizes[last.job()]), last.k);
+            if i < size && k < size {
+                results[lent.starts[last.job()] + i * size + k] = self.a[i * (n + 1) + n];
+            }
+        }
+    }
+}

@@ -1,0 +1,163 @@
+//! The reference's reader, array and sheet, held against what document 01 says apart from them: the listing, the bench
+//! cards, the borders of the tests, and the elimination.
+
+use reference::algebra::Algebra;
+use reference::array_checks::check;
+use reference::border_texts::{border_texts, LISTING};
+use reference::byte_damage::{damaged_bytes, senseless_text};
+use reference::job_lists::{largest_list, list, small_list, Sizes};
+use reference::job_text::{read, JobList, Refusal};
+use reference::job_texts::{text, Freedom};
+use reference::long_texts::long_text;
+use reference::random::Random;
+use reference::sheet::sheet;
+use reference::systolic::{part_starts, run, Outcome};
+use reference::systolic_rows::{Lent, RowArray};
+use reference::tables::Kind;
+use reference::text_damage::{damaged_text, mixed_text, NUMBERS};
+
+fn printed(text: &str) -> String {
+    String::from_utf8(sheet(text.as_bytes())).unwrap()
+}
+
+/// B9.
+#[test]
+fn listing() {
+    let wanted =
+        "(jobs 1 ticks 10)\n(out 0 0 0 7 0)\n(out 0 0 1 8 5)\n(out 0 1 0 8 -)\n(out 0 1 1 9 0)\n";
+    assert_eq!(printed(LISTING), wanted);
+}
+
+/// B8, and none and 0 in reach.
+#[test]
+fn one_point() {
+    let wanted = "(jobs 1 ticks 4)\n(out 0 0 0 3 1)\n";
+    assert_eq!(printed("(list 1 reach\n(job 1\n(row 0)\n)\n)"), wanted);
+    let wanted =
+        "(jobs 1 ticks 10)\n(out 0 0 0 7 1)\n(out 0 0 1 8 0)\n(out 0 1 0 8 1)\n(out 0 1 1 9 1)\n";
+    let text = "(list 2 reach\n(job 2\n(row 0 0)\n(row 1 0)\n)\n)";
+    assert_eq!(printed(text), wanted);
+}
+
+/// B10, with the links of B3 and, as job 1, two points of a hall.
+#[test]
+fn jobs_of_two_sizes() {
+    let first = "(job 3\n(row 0 4 9)\n(row - 0 3)\n(row 1 - 0)\n)\n";
+    let second = "(job 2\n(row 9 4)\n(row - 9)\n)\n";
+    let text = format!("(list 3 distance\n{first}{second})\n");
+    let wanted = "(jobs 2 ticks 28)\n\
+        (out 0 0 0 11 0)\n(out 0 0 1 12 4)\n(out 0 1 0 12 4)\n(out 0 0 2 13 7)\n(out 0 1 1 13 0)\n\
+        (out 0 2 0 13 1)\n(out 0 1 2 14 3)\n(out 0 2 1 14 5)\n(out 0 2 2 15 0)\n\
+        (out 1 0 0 23 0)\n(out 1 0 1 24 4)\n(out 1 1 0 24 -)\n(out 1 1 1 25 0)\n";
+    assert_eq!(printed(&text), wanted);
+}
+
+#[test]
+fn borders() {
+    for (text, wanted) in border_texts() {
+        let refusal = read(&text).err();
+        let shown = &text[..text.len().min(200)];
+        assert_eq!(refusal, wanted, "{}", shown.escape_ascii());
+    }
+    assert_eq!(printed("("), "(refused 14 1)\n");
+    assert_eq!(printed(""), "(refused 17 0)\n");
+}
+
+/// A list comes back from any text that is written of it.
+#[test]
+fn written_lists_are_read() {
+    let mut random = Random::new(3);
+    for _ in 0..2_000 {
+        let algebra = random.pick(&Algebra::ALL);
+        let list = small_list(&mut random, algebra);
+        let freedom = Freedom::any(&mut random);
+        let text = text(&mut random, freedom, &list);
+        assert_eq!(read(&text), Ok(list), "{}", text.escape_ascii());
+    }
+}
+
+#[test]
+fn largest_lists_are_read() {
+    let mut random = Random::new(4);
+    for _ in 0..60 {
+        let algebra = random.pick(&Algebra::ALL);
+        let list = largest_list(&mut random, algebra);
+        let freedom = Freedom(random.pick(&[0, 20]));
+        let text = text(&mut random, freedom, &list);
+        assert_eq!(read(&text), Ok(list));
+    }
+}
+
+/// Every order, with the ticks and words that the formulas and the elimination give.
+#[test]
+fn the_array_eliminates() {
+    let mut random = Random::new(5);
+    for order in 1..=32 {
+        for sizes in Sizes::ALL {
+            let algebra = random.pick(&Algebra::ALL);
+            let jobs = random.pick(&[1, 2, 3, 16]);
+            let list = list(&mut random, algebra, order, jobs, sizes, &Kind::ALL);
+            assert_eq!(check(&list, &run(&list)), Ok(()), "{list:?}");
+        }
+    }
+}
+
+/// The results as they are before the tick numbered `ticks`.
+fn left_before(list: &JobList, outcome: &Outcome, ticks: usize) -> Vec<u16> {
+    let starts = part_starts(&list.sizes);
+    let mut results = vec![7; outcome.results.len()];
+    for leaving in &outcome.leavings {
+        let size = usize::from(list.sizes[leaving.job]);
+        let at = starts[leaving.job] + leaving.row * size + leaving.column;
+        if leaving.tick < ticks {
+            results[at] = outcome.results[at];
+        }
+    }
+    results
+}
+
+/// Both arrays leave the same words on the same ticks, in runs of any length.
+#[test]
+fn both_arrays_agree() {
+    let mut random = Random::new(6);
+    for order in 1..=32 {
+        for algebra in Algebra::ALL {
+            let jobs = random.between(1, 4);
+            let sizes = random.pick(&Sizes::ALL);
+            let list = list(&mut random, algebra, order, jobs, sizes, &Kind::ALL);
+            let outcome = run(&list);
+            let lent = Lent {
+                sizes: &list.sizes,
+                starts: &part_starts(&list.sizes),
+                weights: &list.weights,
+            };
+            let mut rows = RowArray::start(order, algebra, jobs);
+            let mut results = vec![7; list.weights.len()];
+            let mut ticks = 0;
+            while ticks < outcome.ticks {
+                ticks += rows.run(random.below(30), &lent, &mut results);
+                assert_eq!(results, left_before(&list, &outcome, ticks), "{list:?}");
+            }
+            assert_eq!(ticks, outcome.ticks);
+            assert_eq!(rows.run(5, &lent, &mut results), 0);
+        }
+    }
+}
+
+/// A damage meant for a refusal leads there often, and the reader takes any bytes.
+#[test]
+fn damages_lead_to_their_refusals() {
+    let mut random = Random::new(7);
+    for wanted in NUMBERS {
+        let mut met = 0;
+        for _ in 0..400 {
+            let refusal = read(&damaged_text(&mut random, wanted)).err();
+            met += usize::from(matches!(refusal, Some(Refusal { number, .. }) if number == wanted));
+        }
+        assert!(met >= 100, "refusal {wanted}: {met} of 400");
+    }
+    for _ in 0..400 {
+        let makers = [damaged_bytes, mixed_text, senseless_text, long_text];
+        let _ = sheet(&random.pick(&makers)(&mut random));
+    }
+}
