@@ -15,7 +15,7 @@ use Rattle.systolic.specs.State.{total}
 use Rattle.systolic.specs.Start.{started}
 use Rattle.systolic.specs.Run.{Ran}
 use Rattle.systolic.specs.Demand.{Runs, runs, leaves, jobsOf}
-use Rattle.systolic.proofs.Padding.{job-words}
+use Rattle.systolic.proofs.Padding.{Fit, job-words}
 use Rattle.systolic.proofs.Started.{started-fit}
 use Rattle.systolic.proofs.Demand.{started-claim}
 use Rattle.systolic.proofs.Corollaries.{past-word}
@@ -26,7 +26,7 @@ use Rattle.printing.proofs.Joined.{joined-same}
 use Rattle.sheet.specs.Lines.{Words, jobsLine, entryLine, rowLines, sheet}
 use Rattle.sheet.specs.Sheet.{wholeRun, resultWords, printed}
 use Rattle.sheet.specs.Demand.{closureWords, Entry, Demand-sheet}
-use Rattle.sheet.proofs.Rows.{Fits, row-empty, row-line}
+use Rattle.sheet.proofs.Rows.{row-empty, row-line}
 use Rattle.sheet.proofs.Run.{named, accepted-started, whole-made}
 
 -- A sheet reads no words but those of the jobs' entries.
@@ -54,13 +54,11 @@ module _ {a : Algebra} {order : ℕ} {sizes weights : List ℕ} (list : Accepted
   abbrev J : Jobs
   J = jobsOf a order sizes weights
 
-  fits : Fits J
-  fits =
-      let fit = started-fit (accepted-started list) in
-      record { least = fit .least; sizes = fit .sizes }
+  fits : Fit J
+  fits = started-fit (accepted-started list)
 
   -- every entry leaves before the end
-  tick-within : {q i k : ℕ} → Entry J q i k → leaves J q i k < total order (length sizes)
+  pub tick-within : {q i k : ℕ} → Entry J q i k → leaves J q i k < total order (length sizes)
   tick-within {q} {i} {k} at =
       let few : size J q ≤ order = fits .sizes q (at .job) in
       let below = mul-le-mul-left (4 * order) (at .job) in
@@ -95,7 +93,7 @@ demand-sheet text order a sizes weights e =
           ∙ sheet-same J (resultWords J after) (closureWords J) (word-is list) (after .made)
           ∙ ap (sheet J (closureWords J)) (whole-made list);
       best = λ q i k at.
-          closure-best a (size J q) (jobWeights J q) (job-words (started-fit (accepted-started list)) q) (at .row) (at .column);
+          closure-best a (size J q) (jobWeights J q) (job-words (fits list) q) (at .row) (at .column);
       tick = λ q i k at. tick-within list at;
       line = λ q i k at. row-line J (closureWords J) (leaves J q i k) i (fits list) at refl;
       nothing = λ t i none. row-empty J (closureWords J) t i none;

@@ -1,5 +1,5 @@
 -- The lines of one tick in the words of the code.
-use Prim.Native.Nat.{ℕ, _+_, _-_, _*_, _/_, _%_, _<_, _≤_}
+use Prim.Native.Nat.{ℕ, zero-le, _+_, _-_, _*_, _/_, _%_, _<_, _≤_}
 use native.Mathlib.Nat.{div-add-mod, mod-lt}
 use native.Mathlib.Omega.{arith}
 use mathlib.Core.Path.{_≡_, sym, ap, _∙_}
@@ -11,13 +11,14 @@ use Rattle.semiring.specs.declared.Algebra.{Algebra}
 use Rattle.memory.proofs.Part.{part-length, part-word}
 use Rattle.systolic.specs.Jobs.{offset, place}
 use Rattle.systolic.specs.Demand.{jobsOf}
+use Rattle.systolic.proofs.Padding.{Fit}
 use Rattle.cells.proofs.Places.{part-within}
 use Rattle.array.proofs.Split.{area-fits}
 use Rattle.printing.specs.Joined.{joined}
 use Rattle.sheet.specs.declared.ticks.Leaving.{Leaving}
 use Rattle.sheet.specs.Lines.{Words, outLine}
 use Rattle.sheet.specs.Leaving.{leavingLine, Small, Printable, tickLines}
-use Rattle.sheet.proofs.Rows.{Fits, tick-early, tick-late, tick-now}
+use Rattle.sheet.proofs.Rows.{tick-early, tick-late, tick-now}
 
 pub place-below : {l : Leaving} {part : List ℕ} → Small l part → {i k : ℕ} → i < l .size → k < l .size → i * l .size + k < length part
 place-below {l} small h g = omega (arith, small .part-fits, digits-lt h g)
@@ -39,8 +40,8 @@ module _ (a : Algebra) (l : Leaving) (part : List ℕ) (i : ℕ) where
 
 -- The lines of tick t, by the job and the sum that the code divides out of it.
 module _ (a : Algebra) {order : ℕ} {sizes results : List ℕ} (p : Printable order sizes results) (t : ℕ) where
-  fits : Fits (jobsOf a order sizes [])
-  fits = record { least = p .least; sizes = p .sizes-fit }
+  fits : Fit (jobsOf a order sizes [])
+  fits = record { least = p .least; sizes = p .sizes-fit; words = λ q r. zero-le }
 
   -- the words of the jobs
   abbrev word : Words
@@ -68,13 +69,13 @@ module _ (a : Algebra) {order : ℕ} {sizes results : List ℕ} (p : Printable o
     pub lines-late : length sizes ≤ job → [] ≡ tickLines a order sizes results t
     lines-late late = sym (tick-late (jobsOf a order sizes []) word fits t job sum sum-below tick-is late)
 
+    abbrev size : ℕ
+    size = getD sizes job 0
+
+    pub size-most : job < length sizes → size ≤ 32
+    size-most now = omega (arith, p .most, p .sizes-fit job now)
+
     module _ (now : job < length sizes) {start : ℕ} (isStart : start ≡ offset sizes job) where
-      abbrev size : ℕ
-      size = getD sizes job 0
-
-      pub size-most : size ≤ 32
-      size-most = omega (arith, p .most, p .sizes-fit job now)
-
       pub end-within : start + size * size ≤ length results
       end-within = rw (isStart, p .results-fit) (part-within sizes job now)
 
@@ -87,7 +88,7 @@ module _ (a : Algebra) {order : ℕ} {sizes results : List ℕ} (p : Printable o
       pub part-fits : t < 65535 → Small (record { job = job; size = size; sum = sum; tick = t }) part
       part-fits h = record {
         job = omega (arith, p .few);
-        size = size-most;
+        size = size-most now;
         tick = omega arith;
         part-fits = rw width (part-length start (size * size) results end-within);
       }

@@ -1,6 +1,7 @@
 pub mod Cards
 pub mod Demand
 pub mod Leaving
+pub mod Numbers
 pub mod Room
 pub mod Rows
 pub mod Run

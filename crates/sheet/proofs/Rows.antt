@@ -11,19 +11,15 @@ use borrow.Author.Tests.{lt-ltb, le-ltb, eq-eqb, ne-eqb, le-leb, lt-leb}
 use Rattle.systolic.specs.Jobs.{Jobs, count, size}
 use Rattle.systolic.specs.Demand.{leaves}
 use Rattle.systolic.proofs.Digits.{same-digits}
+use Rattle.systolic.proofs.Padding.{Fit}
 use Rattle.printing.specs.Joined.{joined}
 use Rattle.printing.proofs.Joined.{joined-same, joined-less, joined-empty, joined-one}
 use Rattle.sheet.specs.Lines.{Words, outLine, entryLine, rowLines}
 use Rattle.sheet.specs.Demand.{Entry}
 use Rattle.sheet.specs.Leaving.{leavingLine}
 
--- Jobs that fit the array.
-pub record Fits (J : Jobs) : Type 0 where
-  pub least : 1 ≤ J .order
-  pub sizes : (q : ℕ) → q < count J → size J q ≤ J .order
-
 -- An entry's tick tells its job and the sum of its row and column.
-pub leaves-digits : {J : Jobs} → Fits J → {q d q′ i k : ℕ} → d < 4 * J .order → Entry J q′ i k
+pub leaves-digits : {J : Jobs} → Fit J → {q d q′ i k : ℕ} → d < 4 * J .order → Entry J q′ i k
     → 4 * J .order * q + 4 * J .order - 1 + d ≡ leaves J q′ i k → (q ≡ q′) × (d ≡ i + k)
 leaves-digits {J} fits {q} {d} {q′} {i} {k} h at e =
     let few : size J q′ ≤ J .order = fits .sizes q′ (at .job) in
@@ -45,7 +41,7 @@ module _ (J : Jobs) (word : Words) (t i : ℕ) where
       joined-empty (size J q) (entryLine J word t i q)
       (λ k hk. entry-empty q k (λ hi. none q k (record { job = hq; row = hi; column = hk }))))
 
-  pub row-line : Fits J → {q k : ℕ} → Entry J q i k → t ≡ leaves J q i k
+  pub row-line : Fit J → {q k : ℕ} → Entry J q i k → t ≡ leaves J q i k
       → rowLines J word t i ≡ outLine (J .algebra q) q i k t (word q i k)
   row-line fits {q} {k} at e =
       joined-one (count J) (λ q′. joined (size J q′) (entryLine J word t i q′)) q (at .job)
@@ -63,7 +59,7 @@ module _ (J : Jobs) (word : Words) (t i : ℕ) where
           let few : size J q ≤ J .order = fits .sizes q (at .job) in
           leaves-digits fits {q = q} {d = i + k} (omega (arith, at .row, at .column, fits .least)) at′ (omega arith)
 
-module _ (J : Jobs) (word : Words) (fits : Fits J) (t : ℕ) where
+module _ (J : Jobs) (word : Words) (fits : Fit J) (t : ℕ) where
   pub tick-early : t + 1 < 4 * J .order → joined (J .order) (rowLines J word t) ≡ []
   tick-early h = joined-empty (J .order) (rowLines J word t) (λ i hi. row-empty J word t i (λ q k at e. omega arith))
 

@@ -3,4 +3,5 @@ pub mod Demand
 pub mod Leaving
 pub mod Lent
 pub mod Lines
+pub mod Numbers
 pub mod Sheet

@@ -36,6 +36,7 @@ fn print_run(
     let StartAnswer::Done = start(number(algebra), order, sizes, weights, state) else {
         return 0;
     };
+    // The sheet's definition runs on results of zeros.
     clear(results);
     let RunAnswer::Made(ticks) = run(state, sizes, weights, 65535, scratch, results) else {
         return 0;

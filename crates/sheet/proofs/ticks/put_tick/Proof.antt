@@ -1,7 +1,7 @@
 use Rattle.sheet.proofs.Leaving.{lines-early, lines-late, size-most, end-within, part-fits, lines-now}
 use Rattle.printing.proofs.Put.{put-none, put-as}
 use Rattle.array.proofs.Split.{area-fits}
-use native.Mathlib.Nat.{le-of-lt, le-trans}
+use native.Mathlib.Nat.{le-trans}
 use native.Mathlib.Omega.{arith}
 use borrow.Author.Needs.{needs}
 use Rattle.sheet.proofs.ticks.put_tick.Statement.{statement}
@@ -38,13 +38,13 @@ cast-size : tie.Need-cast-size
 cast-size c = omega (arith, c .before .before .before .before .before .before .pre .0 .most, c .before .before .before .before .before .before .pre .0 .sizes-fit _ (c .before .if2 .left))
 
 words-before-requires : tie.Need-words-before-requires
-words-before-requires c κs = ((le-of-lt (c .before .if2 .left), c .before .before .before .before .before .before .pre .0 .few), λ q h. le-trans (c .before .before .before .before .before .before .pre .0 .sizes-fit q h) (c .before .before .before .before .before .before .pre .0 .most))
+words-before-requires c κs = ((omega (arith, c .before .if2 .left), c .before .before .before .before .before .before .pre .0 .few), λ q h. le-trans (c .before .before .before .before .before .before .pre .0 .sizes-fit q h) (c .before .before .before .before .before .before .pre .0 .most))
 
 mul-end : tie.Need-mul-end
-mul-end c = omega (arith, area-fits (size-most (c .before .before .before .before .before .before .before .args .algebra) (c .before .before .before .before .before .before .before .pre .0) (c .before .before .before .before .before .before .before .args .t) (c .before .before .before .if1 .left) (c .before .before .if2 .left) (c .words-before .ensures .0)))
+mul-end c = omega (arith, area-fits (size-most (c .before .before .before .before .before .before .before .args .algebra) (c .before .before .before .before .before .before .before .pre .0) (c .before .before .before .before .before .before .before .args .t) (c .before .before .before .if1 .left) (c .before .before .if2 .left)))
 
 add-end : tie.Need-add-end
-add-end c = omega (arith, c .words-before .ensures .1, area-fits (size-most (c .before .before .before .before .before .before .before .args .algebra) (c .before .before .before .before .before .before .before .pre .0) (c .before .before .before .before .before .before .before .args .t) (c .before .before .before .if1 .left) (c .before .before .if2 .left) (c .words-before .ensures .0)))
+add-end c = omega (arith, c .words-before .ensures .1, area-fits (size-most (c .before .before .before .before .before .before .before .args .algebra) (c .before .before .before .before .before .before .before .pre .0) (c .before .before .before .before .before .before .before .args .t) (c .before .before .before .if1 .left) (c .before .before .if2 .left)))
 
 rem-put-rows : tie.Need-rem-put-rows
 rem-put-rows c = search needs

@@ -1,0 +1,157 @@
+-- The numbers of a sheet are small.
+use Prim.Native.Nat.{ℕ, zero, suc, _+_, _≤_}
+use native.Mathlib.Nat.{le-trans}
+use native.Mathlib.Omega.{arith}
+use mathlib.Core.Path.{_≡_, refl}
+use mathlib.Core.List.{List, [], _∷_, map}
+use mathlib.Core.Bool.{Bool, true, false, not}
+use lib.ListN.{length, length-map}
+use lib.Dec.{eqb, ltb, leb}
+use borrow.Author.Tests.{ltb-false}
+use Rattle.memory.specs.Lists.{any}
+use Rattle.semiring.specs.Algebra.{topOf}
+use Rattle.semiring.specs.declared.Algebra.{Algebra}
+use Rattle.semiring.specs.declared.Algebra.the-variants.{Reach, Distance, Steepest}
+use Rattle.closure.specs.Elimination.{closure}
+use Rattle.closure.proofs.Links.{words-links}
+use Rattle.closure.proofs.Passes.{passes-word}
+use Rattle.systolic.specs.Jobs.{Jobs, size, jobWeights}
+use Rattle.systolic.specs.Demand.{jobsOf}
+use Rattle.systolic.proofs.Padding.{Fit, job-words}
+use Rattle.systolic.proofs.Started.{started-fit}
+use Rattle.closure.specs.Tests.{refuse, outside, anyAbove}
+use Rattle.job_form.specs.Pieces.{Piece, pieced, cut, bytesOf, lines, parts}
+use Rattle.job_form.specs.Tokens.{isNumeral, isOver, isName, valueOf}
+use Rattle.job_form.specs.Forms.{Form, list, job, row, close, skipped, unknown, formOf}
+use Rattle.job_text.specs.declared.state.Due.{Due}
+use Rattle.job_text.specs.declared.state.Due.the-variants as due
+use Rattle.job_text.specs.Steps.{Progress, forDue, overIn, noWord, wordOf, tests, after, Step, go, stop, start, proceed, step}
+use Rattle.job_text.specs.Reading.{Reading, refused, accepted, ended, follow, unless, readingOf}
+use Rattle.job_text.specs.Whole.{Accepted}
+use Rattle.job_text.proofs.Whole.{whole}
+use Rattle.sheet.specs.Numbers.{Refusal-numbers, List-numbers}
+use Rattle.sheet.proofs.Demand.{tick-within}
+use Rattle.sheet.proofs.Run.{accepted-started, total-most}
+
+refuse-most : (b : Bool) {k rest : ℕ} → k ≤ 18 → rest ≤ 18 → refuse b k rest ≤ 18
+refuse-most true h g = h
+refuse-most false h g = g
+
+due-most : (d : Due) {l j r c : ℕ} → l ≤ 18 → j ≤ 18 → r ≤ 18 → c ≤ 18 → forDue d l j r c ≤ 18
+due-most due.List hl hj hr hc = hl
+due-most due.Job hl hj hr hc = hj
+due-most due.Row hl hj hr hc = hr
+due-most due.Close hl hj hr hc = hc
+due-most due.Nothing hl hj hr hc = omega arith
+
+tests-most : (p : Progress) (f : Form) → tests p f ≤ 18
+tests-most p (list n a) =
+    due-most (p .due)
+    (refuse-most (not (isNumeral n)) (omega arith)
+    (refuse-most (not (isName a)) (omega arith)
+    (refuse-most (isOver n) (omega arith) (refuse-most (outside 1 32 (valueOf n)) (omega arith) (omega arith)))))
+    (omega arith) (omega arith) (omega arith)
+tests-most p (job n) =
+    due-most (p .due) (omega arith)
+    (refuse-most (not (isNumeral n)) (omega arith)
+    (refuse-most (isOver n) (omega arith)
+    (refuse-most (outside 1 (p .order) (valueOf n)) (omega arith)
+    (refuse-most (leb 16 (length (p .sizes))) (omega arith) (omega arith)))))
+    (omega arith) (omega arith)
+tests-most p (row ts) =
+    due-most (p .due) (omega arith) (omega arith)
+    (refuse-most (any noWord ts) (omega arith)
+    (refuse-most (any (overIn (p .algebra)) ts) (omega arith)
+    (refuse-most (not (eqb (length ts) (p .size))) (omega arith)
+    (refuse-most (anyAbove (topOf (p .algebra)) (map (wordOf (p .algebra)) ts)) (omega arith) (omega arith)))))
+    (omega arith)
+tests-most p close =
+    due-most (p .due) (omega arith) (refuse-most (eqb (length (p .sizes)) 0) (omega arith) (omega arith)) (omega arith) (omega arith)
+tests-most p unknown = due-most (p .due) (omega arith) (omega arith) (omega arith) (omega arith)
+tests-most p skipped = omega arith
+
+-- a refusal so far
+StepMost : Step → Type 0
+StepMost (go p) = Unit {0}
+StepMost (stop k) = k ≤ 18
+
+step-most : (p : Progress) (f : Form) → StepMost (step p f)
+unfolding StepMost step
+step-most p f = by (tests p f) (tests-most p f)
+  where
+    by : (k : ℕ) → k ≤ 18 → StepMost (proceed k (after p f))
+    by zero h = tt
+    by (suc k) h = h
+
+-- a reading's refusal with at most n lines
+Most : ℕ → Reading → Type 0
+Most n (refused number line) = (number ≤ 18) × (line ≤ n)
+Most n (accepted order a sizes weights) = Unit {0}
+
+ended-most : (d : Due) (n line : ℕ) (p : Progress) → line ≤ n → Most n (ended d line p)
+unfolding Most
+ended-most due.List n line p h = (omega arith, h)
+ended-most due.Job n line p h = (omega arith, h)
+ended-most due.Row n line p h = (omega arith, h)
+ended-most due.Close n line p h = (omega arith, h)
+ended-most due.Nothing n line p h = tt
+
+follow-most : (n line : ℕ) (ls : List (List ℕ)) (t : Step) → StepMost t → line + length ls ≤ n → Most n (follow line ls t)
+unfolding follow StepMost Most
+follow-most n line [] (go p) s h = ended-most (p .due) n line p (omega arith)
+follow-most n line [] (stop k) s h = (s, omega arith)
+follow-most n line (l ∷ ls) (go p) s h = follow-most n (suc line) ls (step p (formOf (parts l))) (step-most p (formOf (parts l))) (omega arith)
+follow-most n line (l ∷ ls) (stop k) s h = (s, omega arith)
+
+-- A text has no more lines than bytes.
+pieced-length : (b : Bool) (at x : ℕ) (ps : List Piece) → length (pieced b at x ps) ≤ suc (length ps)
+pieced-length true at x ps = omega arith
+pieced-length false at x [] = omega arith
+pieced-length false at x (p ∷ ps) = omega arith
+
+cut-length : (end at : ℕ) (l : List ℕ) → length (cut end at l) ≤ length l
+unfolding cut
+cut-length end at [] = omega arith
+cut-length end at (b ∷ l) = omega (arith, pieced-length (eqb b end) at b (cut end (suc at) l), cut-length end (suc at) l)
+
+lines-length : (text : List ℕ) → length (lines text) ≤ length text
+unfolding lines
+lines-length text = rw (length-map (cut 10 0 text) bytesOf) (cut-length 10 0 text)
+
+reading-most : (text : List ℕ) → Most 65536 (readingOf 16 16384 text)
+unfolding readingOf Most StepMost
+reading-most text = by (ltb 65536 (length text)) refl
+  where
+    by : (b : Bool) → ltb 65536 (length text) ≡ b → Most 65536 (unless (refuse b 13 0) (follow 0 (lines text) (go start)))
+    by true e = (omega arith, omega arith)
+    by false e =
+        follow-most 65536 0 (lines text) (go start) tt (omega (arith, ltb-false 65536 (length text) e, lines-length text))
+
+pub refusal-numbers : Refusal-numbers
+unfolding Most
+refusal-numbers text number line e = rw e at (reading-most text)
+
+top-most : (a : Algebra) → topOf a ≤ 65535
+top-most Reach = omega arith
+top-most Distance = omega arith
+top-most Steepest = omega arith
+
+pub list-numbers : List-numbers
+unfolding closure
+list-numbers text order a sizes weights e =
+    let list : Accepted order a sizes weights = whole 16 16384 text order a sizes weights e in
+    let J : Jobs = jobsOf a order sizes weights in
+    let fit : Fit J = started-fit (accepted-started list) in
+    record {
+      jobs = list .few;
+      ticks = total-most list;
+      places = λ q i k at.
+          let within : size J q ≤ order = fit .sizes q (at .job) in (
+            omega (arith, at .job, list .few),
+            omega (arith, at .row, list .order-most),
+            omega (arith, at .column, list .order-most),
+          );
+      tick = λ q i k at. omega (arith, tick-within list at, total-most list);
+      words = λ q i k at.
+          le-trans (passes-word (words-links a (size J q) (jobWeights J q) (job-words fit q)) (size J q) i k) (top-most a);
+    }
