@@ -2,19 +2,19 @@
 //! cards, the borders of the tests, and the elimination.
 
 use reference::algebra::Algebra;
-use reference::array_checks::check;
-use reference::border_texts::{border_texts, LISTING};
-use reference::byte_damage::{damaged_bytes, senseless_text};
-use reference::job_lists::{largest_list, list, small_list, Sizes};
+use reference::bench::sheet::sheet;
+use reference::elimination::tables::Kind;
 use reference::job_text::{read, JobList, Refusal};
-use reference::job_texts::{text, Freedom};
-use reference::long_texts::long_text;
 use reference::random::Random;
-use reference::sheet::sheet;
+use reference::systolic::checks::check;
+use reference::systolic::rows::{Lent, RowArray};
 use reference::systolic::{part_starts, run, Outcome};
-use reference::systolic_rows::{Lent, RowArray};
-use reference::tables::Kind;
-use reference::text_damage::{damaged_text, mixed_text, NUMBERS};
+use reference::texts::border::{border_texts, LISTING};
+use reference::texts::byte_damage::{damaged_bytes, senseless_text};
+use reference::texts::damage::{damaged_text, mixed_text, NUMBERS};
+use reference::texts::lists::{largest_list, list, small_list, Sizes};
+use reference::texts::long::long_text;
+use reference::texts::writing::{text, Freedom};
 
 fn printed(text: &str) -> String {
     String::from_utf8(sheet(text.as_bytes())).unwrap()

@@ -2,11 +2,11 @@
 //! order of the tests.
 
 use reference::algebra::Algebra::{self, Distance, Reach, Steepest};
-use reference::damages::damaged_call;
+use reference::elimination::damages::damaged_call;
 use reference::elimination::eliminate;
+use reference::elimination::refusal::{refusal, NUMBERS};
+use reference::elimination::tables::{table, Kind};
 use reference::random::Random;
-use reference::refusal::{refusal, NUMBERS};
-use reference::tables::{table, Kind};
 
 const NONE: u16 = 65535;
 

@@ -1,7 +1,7 @@
 -- Run's answers: what a header that was read tells, and the definition of a run where it is refused and where it is accepted.
-use Prim.Native.Nat.{ℕ, suc, _+_, _-_, _*_, _≤_, min}
+use Prim.Native.Nat.{ℕ, suc, _+_, _-_, _≤_, min}
 use native.Mathlib.Omega.{arith}
-use mathlib.Core.Path.{_≡_, refl, sym, ap, _∙_}
+use mathlib.Core.Path.{_≡_, refl, ap}
 use mathlib.Core.List.{List}
 use mathlib.Core.Bool.{Bool, true, false, not, cond, _||_}
 use lib.ListN.{length, replicate}
@@ -14,7 +14,7 @@ use Rattle.semiring.specs.declared.Named.{Named}
 use Rattle.semiring.specs.declared.Named.the-variants.{Known, Unknown}
 use Rattle.closure.specs.Tests.{outside}
 use Rattle.systolic.specs.State.{orderOf, algebraOf, countOf, tickOf, stateLength, total}
-use Rattle.systolic.specs.Run.{badState, runTests, ticksMade, Ran, ranOn, refusedRun, ranBy, ran}
+use Rattle.systolic.specs.Run.{badState, runTests, ticksMade, ranOn, refusedRun, ranBy, ran}
 use Rattle.systolic.proofs.Started.{inside}
 use Rattle.array.specs.declared.head.Header.{Header}
 use Rattle.array.specs.declared.head.HeaderRead.the-variants.{Fit, Unfit}

@@ -16,7 +16,7 @@ use Rattle.semiring.specs.declared.Algebra.{Algebra}
 use Rattle.systolic.specs.Tick.{Array, ticks}
 use Rattle.systolic.specs.State.{stateWords, orderOf, algebraOf, countOf, tickOf}
 use Rattle.systolic.specs.Demand.{jobsOf}
-use Rattle.cells.specs.Ready.{arrayOf}
+use Rattle.ticks.specs.Ready.{arrayOf}
 
 pub area-fits : {n : ℕ} → n ≤ 32 → n * n ≤ 1024
 area-fits h = mul-le-mul h h

@@ -1,7 +1,7 @@
 -- The words of a state with planes 0, and start's answer where it turns back.
 use Prim.Native.Nat.{ℕ, zero, suc, _+_, _*_, _≤_}
 use native.Mathlib.Omega.{arith}
-use mathlib.Core.Path.{_≡_, refl, sym, ap, _∙_}
+use mathlib.Core.Path.{_≡_, refl, sym, ap}
 use mathlib.Core.List.{List, _++_}
 use mathlib.Core.Bool.{true, false}
 use lib.ListN.{getD, replicate, replicate-append-replicate}

@@ -13,10 +13,10 @@ use crate::planes::put_planes;
 use crate::planes::take_planes;
 use crate::sizes::any_outside;
 use crate::sizes::words_of;
-use cells::advance;
 use elimination::has_word_above;
 use memory::clear;
 use semiring::Algebra;
+use ticks::advance;
 
 // What a call of run answers: the ticks made, or why it turned back.
 pub enum RunAnswer {

@@ -1,7 +1,6 @@
 // The bench: a job text on standard input, its sheet on standard output. A read or a write that fails is told on standard
 // error; after a failed read nothing is printed.
 ghost use mathlib.Core.Path.{_≡_};
-ghost use Prim.Native.Nat.{_≤_};
 ghost use lib.ListN.{length};
 
 mod input;

@@ -1,8 +1,8 @@
 -- Rows, passes and parts as products: the bounds that the code's numbers need.
 use Prim.Native.Nat.{ℕ, zero, suc, _+_, _-_, _*_, _<_, _≤_}
-use native.Mathlib.Nat.{mul-le-mul, mul-le-mul-right, mul-le-mul-left}
+use native.Mathlib.Nat.{mul-le-mul, mul-le-mul-right}
 use native.Mathlib.Omega.{arith}
-use mathlib.Core.Path.{_≡_, refl, ap}
+use mathlib.Core.Path.{_≡_}
 use Rattle.systolic.specs.State.{total}
 
 pub row-fits : {i n : ℕ} → i < n → i * n + n ≤ n * n

@@ -2,9 +2,4 @@ pub mod Geometry
 pub mod Span
 pub mod Turns
 pub mod Parts
-pub mod Places
-pub mod Rows
 pub mod Lending
-pub mod Feeding
-pub mod Emission
-pub mod Run

@@ -2,12 +2,11 @@
 use Prim.Native.Nat.{ℕ, _+_, _<_, _≤_}
 use native.Mathlib.Omega.{arith}
 use native.Mathlib.Decide.{ℕ-discrete}
-use mathlib.Core.Path.{_≡_, refl, sym, ap, _∙_}
+use mathlib.Core.Path.{_≡_, refl, ap, _∙_}
 use mathlib.Core.Logic.{_≢_}
 use mathlib.Core.List.{List}
 use lib.ListN.{length, getD, set, length-set}
 use lib.Seq.{getD-set-same, getD-set-other}
-use Rattle.memory.proofs.Walk.{Walked}
 use Rattle.cells.specs.Span.{Spanned}
 
 module _ {old : List ℕ} {from : ℕ} where
@@ -56,7 +55,3 @@ module _ {old : List ℕ} {from : ℕ} where
       at : (p : ℕ) → from ≤ p → p < j + 1 → Dec (p ≡ j) → getD (set l j v) p 0 ≡ f p (getD old p 0)
       at p u w (yes q) = rw q (getD-set-same l j v 0 (omega (arith, s .size)) ∙ e ∙ ap (f j) (s .after j (omega arith)))
       at p u w (no q) = getD-set-other l j p v 0 q ∙ s .inside p u (omega arith)
-
--- a walk from the front
-pub spanned-walked : {f : ℕ → ℕ → ℕ} {old l : List ℕ} {m : ℕ} → Walked f old m l → Spanned f old 0 m l
-spanned-walked w = record { size = w .size; inside = λ j h k. w .done j k; before = λ j h. absurd (omega arith); after = w .rest }

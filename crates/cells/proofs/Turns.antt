@@ -1,14 +1,14 @@
 -- A turn of a cell on a tick: the job, pass and point of its step, or that it has none. Elsewhere nothing divides.
-use Prim.Native.Nat.{ℕ, suc, _+_, _-_, _*_, _/_, _%_, _<_, _≤_}
+use Prim.Native.Nat.{ℕ, _+_, _-_, _*_, _<_, _≤_}
 use native.Mathlib.Nat.{mul-le-mul-left}
 use native.Mathlib.Omega.{arith}
 use native.Mathlib.Decide.{decLt}
-use mathlib.Core.Path.{_≡_, refl, sym, ap, _∙_}
-use mathlib.Core.Bool.{Bool, true, false, cond, _&&_, and-false}
+use mathlib.Core.Path.{_≡_, refl, ap}
+use mathlib.Core.Bool.{Bool, true, false, cond, and-false}
 use lib.Dec.{leb, ltb}
-use borrow.Author.Tests.{leb-true, leb-false, ltb-true, ltb-false, lt-leb, le-ltb, le-leb, lt-ltb}
+use borrow.Author.Tests.{leb-true, ltb-true, ltb-false, lt-leb, le-ltb, le-leb}
 use Rattle.systolic.specs.Jobs.{Jobs, count}
-use Rattle.systolic.specs.Cell.{Planes, Cell, cellOf, stepped}
+use Rattle.systolic.specs.Cell.{Planes, cellOf, stepped}
 use Rattle.systolic.specs.Tick.{works, cellAfter}
 use Rattle.systolic.proofs.Digits.{both-true, same-digits, Step, step-cell, idle-cell}
 use Rattle.cells.specs.Turn.{live, jobIn, passIn}

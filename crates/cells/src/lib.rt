@@ -1,12 +1,9 @@
-// The ticks of the systolic array, on planes lent as three memories and swept in place, row by row.
-mod emit;
-mod feed;
-mod jobs;
+// The cells of the systolic array on one tick, row by row in place: a cell's turn, the cells of a row that are in one pass, a
+// row.
 mod part;
-mod row;
-mod sweep;
-mod ticks;
+mod rows;
 mod turn;
 
-pub use ticks::advance;
+pub use rows::row;
 pub use turn::Turn;
+pub use turn::live;

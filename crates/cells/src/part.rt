@@ -1,7 +1,7 @@
 // The cells of a row that are in one pass: column j is at point k - j of it.
 ghost use mathlib.Core.Path.{_≡_};
 ghost use mathlib.Core.Bool.{cond, _&&_};
-ghost use Prim.Native.Nat.{ℕ, _+_, _-_, _*_, _≤_, _<_};
+ghost use Prim.Native.Nat.{ℕ, _+_, _-_, _≤_, _<_};
 ghost use lib.ListN.{length, getD};
 ghost use lib.Dec.{eqb, ltb};
 ghost use Rattle.cells.specs.Span.{Spanned, Worked, memories};

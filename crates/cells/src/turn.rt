@@ -1,6 +1,6 @@
 // A cell's turn: its pass, counted from four before the first, and its point in that pass. Divides once, when it is made.
 ghost use mathlib.Core.Path.{_≡_};
-ghost use Prim.Native.Nat.{ℕ, _+_, _-_, _*_, _≤_, _<_};
+ghost use Prim.Native.Nat.{_+_, _-_, _*_, _≤_, _<_};
 ghost use Rattle.cells.specs.Turn.{At, live as livePass};
 
 pub struct Turn {

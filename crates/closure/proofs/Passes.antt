@@ -4,7 +4,7 @@ use native.Mathlib.Nat.{eq-or-lt-of-le, le-of-suc-le-suc, not-suc-le-zero}
 use mathlib.Core.Path.{_≡_}
 use mathlib.Core.Logic.{inl, inr}
 use lib.Arith.{le-zero}
-use Rattle.semiring.specs.Algebra.{Word, ownOf, sumOf, productOf}
+use Rattle.semiring.specs.Algebra.{Word, ownOf, productOf}
 use Rattle.semiring.specs.declared.Algebra.{Algebra}
 use Rattle.semiring.proofs.Laws.{laws}
 use Rattle.semiring.proofs.Order.{

@@ -8,7 +8,7 @@ use lib.ListN.{length, getD, take, drop}
 use Rattle.memory.specs.Lists.{replaced}
 use Rattle.memory.proofs.Part.{part-length, part-word}
 use Rattle.memory.proofs.Walk.{Walked, walked-part, walked-to, walked-drop, walked-all}
-use Rattle.closure.specs.Table.{entries, rowByRow}
+use Rattle.closure.specs.Table.{rowByRow}
 use Rattle.elimination.specs.Rows.{rowOf, rowwise}
 use Rattle.elimination.proofs.Geometry.{row-fits}
 

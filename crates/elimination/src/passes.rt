@@ -1,7 +1,7 @@
 // A table closed in place, two points at a time.
 ghost use mathlib.Core.Path.{_≡_};
-ghost use Prim.Native.Nat.{ℕ, _+_, _*_, _≤_, _<_};
-ghost use lib.ListN.{length, getD};
+ghost use Prim.Native.Nat.{_+_, _*_, _≤_, _<_};
+ghost use lib.ListN.{length};
 ghost use Rattle.closure.specs.Table.{Table, rowByRow};
 ghost use Rattle.closure.specs.Elimination.{through, passes};
 ghost use Rattle.closure.proofs.Holds.{Holds};

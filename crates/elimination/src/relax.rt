@@ -1,6 +1,6 @@
 // One row of a table through one point, or through two: the loops that run n³ times.
 ghost use Prim.Native.Nat.{_+_, _<_, _≤_};
-ghost use lib.ListN.{length, getD};
+ghost use lib.ListN.{length};
 ghost use Rattle.elimination.specs.Relax.{relaxed, relaxedTwice};
 ghost use Rattle.memory.proofs.Walk.{Walked};
 use semiring::Algebra;

@@ -1,7 +1,7 @@
 -- Document 01, "Job text and bench program" and row Text of "Where each call turns back": what one line does.
 use Prim.Native.Nat.{ℕ, zero, suc, _-_}
 use mathlib.Core.List.{List, [], _∷_, _++_, map}
-use mathlib.Core.Bool.{Bool, true, false, cond, not, _||_}
+use mathlib.Core.Bool.{Bool, true, false, cond, not}
 use lib.ListN.{length}
 use lib.Dec.{eqb, leb}
 use Rattle.memory.specs.Lists.{any}

@@ -2,8 +2,7 @@
 ghost use mathlib.Core.Path.{_≡_};
 ghost use mathlib.Core.List.{List, _++_, map};
 ghost use mathlib.Core.Bool.{_||_};
-ghost use Prim.Native.Nat.{ℕ, _-_, _<_, _^_, min};
-ghost use lib.ListN.{length};
+ghost use Prim.Native.Nat.{ℕ, _-_, _<_, _^_};
 ghost use lib.Dec.{ltb};
 ghost use Rattle.semiring.specs.Algebra.{topOf};
 ghost use Rattle.job_form.specs.declared.tokens.Token.{Token as Part};

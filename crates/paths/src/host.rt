@@ -1,7 +1,7 @@
 // The elimination for a host in C: two bytes a word, low byte first. The words lie in arrays of this call, the smallest of
 // three sizes that holds the table, since an array is cleared when it is made.
 ghost use mathlib.Core.Path.{_≡_};
-ghost use Prim.Native.Nat.{_*_, _≤_};
+ghost use Prim.Native.Nat.{_*_};
 ghost use lib.ListN.{length};
 ghost use Rattle.semiring.specs.Named.{namedOf};
 ghost use Rattle.paths.specs.Bytes.{hostTests, hostAfter};

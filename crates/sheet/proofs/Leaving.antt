@@ -12,10 +12,10 @@ use Rattle.memory.proofs.Part.{part-length, part-word}
 use Rattle.systolic.specs.Jobs.{offset, place}
 use Rattle.systolic.specs.Demand.{jobsOf}
 use Rattle.systolic.proofs.Padding.{Fit}
-use Rattle.cells.proofs.Places.{part-within}
+use Rattle.ticks.proofs.Places.{part-within}
 use Rattle.array.proofs.Split.{area-fits}
 use Rattle.printing.specs.Joined.{joined}
-use Rattle.sheet.specs.declared.ticks.Leaving.{Leaving}
+use Rattle.sheet.specs.declared.tick_lines.Leaving.{Leaving}
 use Rattle.sheet.specs.Lines.{Words, outLine}
 use Rattle.sheet.specs.Leaving.{leavingLine, Small, Printable, tickLines}
 use Rattle.sheet.proofs.Rows.{tick-early, tick-late, tick-now}

@@ -6,7 +6,7 @@ use Rattle.memory.specs.Ascii.{ascii}
 use Rattle.semiring.specs.declared.Algebra.the-variants.{Reach, Distance, Steepest}
 use Rattle.closure.specs.Elimination.{closure, eliminated}
 use Rattle.systolic.specs.Start.{started}
-use Rattle.systolic.specs.Demand.{Call, Runs, runs}
+use Rattle.systolic.specs.Demand.{Runs, runs}
 use Rattle.sheet.specs.Sheet.{sheetOf}
 
 -- none, outside reach

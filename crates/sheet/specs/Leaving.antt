@@ -9,7 +9,7 @@ use Rattle.semiring.specs.declared.Algebra.{Algebra}
 use Rattle.systolic.specs.Jobs.{Jobs, wordsOf, place}
 use Rattle.systolic.specs.Demand.{jobsOf}
 use Rattle.printing.specs.Joined.{joined}
-use Rattle.sheet.specs.declared.ticks.Leaving.{Leaving}
+use Rattle.sheet.specs.declared.tick_lines.Leaving.{Leaving}
 use Rattle.sheet.specs.Lines.{outLine, rowLines}
 
 -- The line of row i, from the job's part of the results.

@@ -1,7 +1,7 @@
 -- Document 01, "Job text and bench program": the lines of a sheet.
-use Prim.Native.Nat.{ℕ, _+_, _*_}
-use mathlib.Core.List.{List, [], _∷_, _++_}
-use mathlib.Core.Bool.{Bool, true, false, cond, _&&_}
+use Prim.Native.Nat.{ℕ, _+_}
+use mathlib.Core.List.{List, [], _++_}
+use mathlib.Core.Bool.{cond, _&&_}
 use lib.Dec.{eqb, ltb}
 use Rattle.memory.specs.Ascii.{ascii}
 use Rattle.semiring.specs.Algebra.{noneOf}

@@ -9,7 +9,7 @@ ghost use Rattle.sheet.specs.Sheet.{sheetOf};
 mod jobs;
 mod lines;
 mod list;
-mod ticks;
+mod tick_lines;
 
 use job_text::Read;
 use job_text::read;

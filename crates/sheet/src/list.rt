@@ -7,7 +7,7 @@ ghost use Rattle.printing.specs.Put.{Put};
 ghost use Rattle.sheet.specs.Lent.{Lent};
 ghost use Rattle.sheet.specs.Sheet.{wholeRun, sheetFrom};
 use crate::lines::put_jobs;
-use crate::ticks::put_ticks;
+use crate::tick_lines::put_ticks;
 use array::RunAnswer;
 use array::StartAnswer;
 use array::run;

@@ -5,10 +5,9 @@ use native.Mathlib.Omega.{arith}
 use mathlib.Core.Path.{_≡_, refl, sym, ap, _∙_}
 use mathlib.Core.Bool.{Bool, true, false, true≢false, _&&_}
 use lib.Arith.{digits-div, digits-mod}
-use lib.Dec.{leb, ltb}
-use borrow.Author.Tests.{le-leb, lt-ltb, leb-true, ltb-true}
+use borrow.Author.Tests.{le-leb, lt-ltb}
 use Rattle.systolic.specs.Jobs.{Jobs, count}
-use Rattle.systolic.specs.Cell.{Planes, Cell, cellOf, stepped}
+use Rattle.systolic.specs.Cell.{Planes, cellOf, stepped}
 use Rattle.systolic.specs.Tick.{works, jobAt, passAt, pointAt, cellAfter}
 
 pub both-true : (b c : Bool) → (b && c) ≡ true → (b ≡ true) × (c ≡ true)
@@ -94,19 +93,3 @@ module _ (J : Jobs) (least : 1 ≤ J .order) where
 pub idle-cell : (J : Jobs) (t : ℕ) (r : Planes) (i j : ℕ) → works J t i j ≡ false → cellAfter J t r i j ≡ cellOf J r i j
 unfolding cellAfter
 idle-cell J t r i j e = rw e
-
--- What a cell holds after a tick: it keeps its registers, or makes the step of its turn.
-pub cell-cases : (J : Jobs) → 1 ≤ J .order → (t : ℕ) (r : Planes) (i j : ℕ) (P : Cell → Type 0)
-    → (works J t i j ≡ false → P (cellOf J r i j))
-    → ((s q p k : ℕ) → Step J s q p k → t ≡ s + (i + j) → P (stepped J r q p k i j))
-    → P (cellAfter J t r i j)
-cell-cases J least t r i j P idle busy = go (works J t i j) refl
-  where
-    go : (b : Bool) → works J t i j ≡ b → P (cellAfter J t r i j)
-    go false e = rw (idle-cell J t r i j e) (idle e)
-    go true e =
-        let (late, below) = both-true (leb (i + j) t) (ltb (t - (i + j)) (4 * J .order * count J)) e in
-        let s : ℕ = t - (i + j) in
-        let step = step-of J least s (ltb-true s (4 * J .order * count J) below) in
-        let f : t ≡ s + (i + j) = omega (arith, leb-true (i + j) t late) in
-        rw (step-cell step i j f r) (busy s (jobAt J s) (passAt J s) (pointAt J s) step f)

@@ -11,10 +11,10 @@ use Rattle.semiring.specs.Named.{namedOf}
 use Rattle.closure.specs.Elimination.{closure}
 use Rattle.closure.specs.Tests.{refuse}
 use Rattle.systolic.specs.Jobs.{Jobs, count, size, wordsOf, jobWeights, place}
-use Rattle.systolic.specs.Tick.{Array, ticks}
+use Rattle.systolic.specs.Tick.{ticks}
 use Rattle.systolic.specs.State.{stateWords, tickOf}
 use Rattle.systolic.specs.Start.{startTests, started, zeroPlanes}
-use Rattle.systolic.specs.Run.{Ran, ran}
+use Rattle.systolic.specs.Run.{ran}
 
 -- "allowance, scratch length and scratch words are each run's own"
 pub record Call : Type 0 where

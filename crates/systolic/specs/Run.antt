@@ -11,7 +11,7 @@ use Rattle.semiring.specs.declared.Named.{Named}
 use Rattle.semiring.specs.declared.Named.the-variants.{Known, Unknown}
 use Rattle.closure.specs.Tests.{refuse, outside, anyAbove}
 use Rattle.systolic.specs.Jobs.{Jobs, wordsOf}
-use Rattle.systolic.specs.Tick.{Array, ticks}
+use Rattle.systolic.specs.Tick.{ticks}
 use Rattle.systolic.specs.State.{stateWords, orderOf, algebraOf, countOf, tickOf, planesOf, stateLength, total}
 use Rattle.systolic.specs.Start.{anyOutside}
 

@@ -5,19 +5,19 @@
 //! array, cell by cell, for the rest. No buffer is cleared between rounds; each contender writes its whole result.
 
 use reference::algebra::Algebra;
+use reference::bench::row_sheet::row_sheet;
+use reference::bench::sheet::sheet;
+use reference::bench::sheet_call::{self, PAGE};
+use reference::bench::timing::best_times;
 use reference::elimination;
-use reference::host_call::{self, bytes_of};
-use reference::job_lists::{list, Sizes};
+use reference::elimination::host_call::{self, bytes_of};
+use reference::elimination::rust_loop::RustLoop;
+use reference::elimination::sse2;
+use reference::elimination::tables::{table, Kind};
 use reference::job_text::JobList;
-use reference::job_texts::{text, Freedom};
 use reference::random::Random;
-use reference::row_sheet::row_sheet;
-use reference::rust_loop::RustLoop;
-use reference::sheet::sheet;
-use reference::sheet_call::{self, PAGE};
-use reference::sse2;
-use reference::tables::{table, Kind};
-use reference::timing::best_times;
+use reference::texts::lists::{list, Sizes};
+use reference::texts::writing::{text, Freedom};
 use reference::MAX_SIZE;
 use std::cell::RefCell;
 use std::hint::black_box;

@@ -7,19 +7,19 @@
 //! of text was met too seldom.
 
 use reference::algebra::Algebra;
-use reference::array_checks::check;
-use reference::border_texts::{border_texts, LISTING};
-use reference::byte_damage::{damaged_bytes, senseless_text};
-use reference::job_lists::{largest_list, medium_list, small_list};
+use reference::bench::program_call::printed;
+use reference::bench::sheet::{accepted, refused};
+use reference::bench::tally::Tally;
 use reference::job_text::read;
-use reference::job_texts::{text, Freedom};
-use reference::long_texts::long_text;
-use reference::program_call::printed;
 use reference::random::Random;
-use reference::sheet::{accepted, refused};
+use reference::systolic::checks::check;
 use reference::systolic::run;
-use reference::tally::Tally;
-use reference::text_damage::{damaged_text, mixed_text, NUMBERS};
+use reference::texts::border::{border_texts, LISTING};
+use reference::texts::byte_damage::{damaged_bytes, senseless_text};
+use reference::texts::damage::{damaged_text, mixed_text, NUMBERS};
+use reference::texts::lists::{largest_list, medium_list, small_list};
+use reference::texts::long::long_text;
+use reference::texts::writing::{text, Freedom};
 use std::env;
 use std::fs;
 use std::path::PathBuf;

@@ -2,12 +2,12 @@
 //! the number and the untouched result of many damaged calls. Ends with status 1 at the first difference.
 
 use reference::algebra::Algebra;
-use reference::damages::{damaged_call, Call};
+use reference::elimination::damages::{damaged_call, Call};
 use reference::elimination::eliminate;
-use reference::host_call::{self, bytes_of, words_of};
+use reference::elimination::host_call::{self, bytes_of, words_of};
+use reference::elimination::refusal::{refusal, NUMBERS};
+use reference::elimination::tables::{table, Kind};
 use reference::random::Random;
-use reference::refusal::{refusal, NUMBERS};
-use reference::tables::{table, Kind};
 use reference::MAX_SIZE;
 use std::process::exit;
 

@@ -1,5 +1,5 @@
 use mathlib.Core.Path.{refl}
-use Prim.Native.Nat.{ℕ, _≤_, _-_}
+use Prim.Native.Nat.{_≤_, _-_}
 use native.Mathlib.Omega.{arith}
 use lib.ListN.{length, getD}
 use Rattle.memory.proofs.Walk.{Walked, walked-none, walked-one, walked-to}

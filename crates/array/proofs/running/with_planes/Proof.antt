@@ -2,7 +2,7 @@ use native.Mathlib.Omega.{arith}
 use mathlib.Core.Path.{_≡_, ap, ap₂, _∙_}
 use denote.Ref.{now}
 use Rattle.systolic.specs.Tick.{Array}
-use Rattle.cells.specs.Ready.{arrayOf}
+use Rattle.ticks.specs.Ready.{arrayOf}
 use Rattle.array.specs.Header.{headed}
 use Rattle.array.specs.Runnable.{arrayMade}
 use Rattle.array.proofs.Split.{array-made, state-made, tick-fits}
@@ -15,7 +15,7 @@ use Rattle.array.proofs.head.Header.next_tick.Reads as next-tick-reads
 use Rattle.array.proofs.head.store_header.Reads as store-header-reads
 use Rattle.array.proofs.planes.put_planes.Reads as put-planes-reads
 use Rattle.array.proofs.planes.take_planes.Reads as take-planes-reads
-use Rattle.cells.proofs.advance.Reads as advance-reads
+use Rattle.ticks.proofs.advance.Reads as advance-reads
 
 -- src/running.rt:55:13
 cast-n : tie.Need-cast-n

@@ -1,12 +1,12 @@
 use borrow.Author.Needs.{needs}
 use denote.Ref.{now}
 use mathlib.Core.Path.{_∙_}
-use lib.ListN.{length, getD}
+use lib.ListN.{getD}
 use Rattle.cells.proofs.Parts.{summed-on, summed-off}
 use Rattle.cells.proofs.Span.{spanned-same, spanned-none, spanned-as, spanned-one, spanned-to}
 use Rattle.cells.specs.Cells.{summed}
 use Rattle.cells.specs.Span.{Spanned}
-use Prim.Native.Nat.{ℕ, _≤_, _-_}
+use Prim.Native.Nat.{_≤_, _-_}
 use native.Mathlib.Omega.{arith}
 use Rattle.cells.proofs.part.add.Statement.{statement}
 use Rattle.cells.proofs.part.add.Tie as tie

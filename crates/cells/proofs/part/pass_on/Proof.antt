@@ -1,9 +1,9 @@
 use borrow.Author.Tests.{eq-eqb, ne-eqb}
-use mathlib.Core.Path.{refl, _∙_}
-use lib.ListN.{length, getD, length-set}
+use mathlib.Core.Path.{refl}
+use lib.ListN.{getD, length-set}
 use Rattle.cells.proofs.Span.{spanned-none, spanned-as, spanned-one, spanned-over, spanned-to}
 use Rattle.cells.specs.Span.{Spanned}
-use Prim.Native.Nat.{ℕ, _≤_, _-_}
+use Prim.Native.Nat.{_≤_, _-_}
 use native.Mathlib.Omega.{arith}
 use Rattle.cells.proofs.part.pass_on.Statement.{statement}
 use Rattle.cells.proofs.part.pass_on.Tie as tie

@@ -1,9 +1,8 @@
 use mathlib.Core.Path.{_≡_, refl, sym, _∙_}
-use denote.Ref.{now}
 use lib.ListN.{length}
 use Rattle.elimination.proofs.Through.{passes-none, passes-one, passes-two}
 use borrow.Author.Needs.{needs}
-use Prim.Native.Nat.{ℕ, _≤_, _+_, _*_, _-_}
+use Prim.Native.Nat.{_≤_, _+_, _*_, _-_}
 use native.Mathlib.Omega.{arith}
 use Rattle.closure.specs.Table.{Table}
 use Rattle.closure.specs.Elimination.{passes}

@@ -1,8 +1,6 @@
-use Prim.Native.Nat.{ℕ, _+_, _*_}
 use native.Mathlib.Omega.{arith}
 use native.Mathlib.Nat.{add-sub-cancel-left}
 use mathlib.Core.Path.{refl}
-use denote.Ref.{now}
 use Rattle.elimination.proofs.Geometry.{row-fits, square-fits}
 use Rattle.elimination.proofs.Through.{row-copied, pass-holds}
 use borrow.Author.Needs.{needs}

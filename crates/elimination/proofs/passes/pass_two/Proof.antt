@@ -1,11 +1,10 @@
 use lib.ListN.{length-take}
-use Prim.Native.Nat.{ℕ, _+_, _*_, _<_, _≤_}
+use Prim.Native.Nat.{ℕ, _+_, _*_, _<_}
 use native.Mathlib.Omega.{arith}
 use native.Mathlib.Nat.{add-sub-cancel-left}
 use mathlib.Core.Path.{refl}
-use denote.Ref.{now}
 use Rattle.elimination.proofs.Geometry.{two-rows-fit, square-fits}
-use Rattle.elimination.proofs.Through.{IsRow, row-copied, row-relaxed, pass-two-holds}
+use Rattle.elimination.proofs.Through.{row-copied, row-relaxed, pass-two-holds}
 use borrow.Author.Needs.{needs}
 use Rattle.elimination.proofs.passes.pass_two.Statement.{statement}
 use Rattle.elimination.proofs.passes.pass_two.Tie as tie

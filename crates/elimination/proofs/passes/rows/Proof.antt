@@ -1,7 +1,7 @@
-use Prim.Native.Nat.{ℕ, _+_, _*_, _≤_, _-_}
+use Prim.Native.Nat.{ℕ, _*_, _≤_, _-_}
 use native.Mathlib.Omega.{arith}
 use native.Mathlib.Nat.{zero-mul, add-sub-cancel-left}
-use mathlib.Core.Path.{sym, ap}
+use mathlib.Core.Path.{ap}
 use Rattle.memory.proofs.Walk.{Walked, walked-none, walked-to}
 use Rattle.elimination.proofs.Geometry.{row-fits, square-fits}
 use Rattle.elimination.proofs.Rows.{due, row-done, rows-done}

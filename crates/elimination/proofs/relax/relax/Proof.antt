@@ -1,6 +1,6 @@
-use Prim.Native.Nat.{ℕ, _≤_, _-_}
+use Prim.Native.Nat.{_≤_, _-_}
 use native.Mathlib.Omega.{arith}
-use lib.ListN.{length, getD}
+use lib.ListN.{length}
 use Rattle.memory.proofs.Walk.{Walked, walked-none, walked-one, walked-to}
 use Rattle.elimination.specs.Relax.{relaxed}
 use borrow.Author.Needs.{needs}

@@ -1,6 +1,6 @@
 use Rattle.array.proofs.Split.{area-fits}
 use denote.Ref.{now}
-use Rattle.cells.proofs.Places.{offset-none, offset-one}
+use Rattle.ticks.proofs.Places.{offset-none, offset-one}
 use Rattle.systolic.specs.Jobs.{offset}
 use mathlib.Core.Path.{_≡_, sym, ap, _∙_}
 use Prim.Native.Nat.{_≤_, _*_, _-_}

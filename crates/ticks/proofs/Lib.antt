@@ -1,0 +1,5 @@
+pub mod Places
+pub mod Rows
+pub mod Feeding
+pub mod Emission
+pub mod Run

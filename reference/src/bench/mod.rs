@@ -1,0 +1,8 @@
+//! The bench program: its sheet written anew, the proved one as a call and as a process, what is counted and timed.
+
+pub mod program_call;
+pub mod row_sheet;
+pub mod sheet;
+pub mod sheet_call;
+pub mod tally;
+pub mod timing;

@@ -1,0 +1,49 @@
+//! What a comparison of texts has met, so that it cannot pass with one kind of text alone.
+
+use crate::job_text::{JobList, Refusal};
+use crate::texts::lists::{has_same_hall, is_largest, neighbours_differ};
+
+/// The refusals that a text can meet through the program.
+pub const NUMBERS: [u16; 9] = [5, 6, 7, 8, 13, 14, 15, 16, 17];
+
+#[derive(Default)]
+pub struct Tally {
+    accepted: usize,
+    refused: [usize; 18],
+    neighbours_differ: usize,
+    same_hall: usize,
+    largest: usize,
+}
+
+impl Tally {
+    pub fn count(&mut self, read: &Result<JobList, Refusal>) {
+        match read {
+            Ok(list) => {
+                self.accepted += 1;
+                self.neighbours_differ += usize::from(neighbours_differ(list));
+                self.same_hall += usize::from(has_same_hall(list));
+                self.largest += usize::from(is_largest(list));
+            }
+            Err(refusal) => self.refused[usize::from(refusal.number)] += 1,
+        }
+    }
+
+    pub fn texts(&self) -> usize {
+        self.accepted + self.refused.iter().sum::<usize>()
+    }
+
+    /// Each kind of text, how many were met, and the fewest that a comparison of full size has to meet.
+    pub fn rows(&self) -> Vec<(String, usize, usize)> {
+        let row = |kind: &str, met, fewest| (kind.to_string(), met, fewest);
+        let mut rows = vec![row("accepted", self.accepted, 5_000)];
+        for number in NUMBERS {
+            let met = self.refused[usize::from(number)];
+            rows.push(row(&format!("refused with {number}"), met, 100));
+        }
+        let (differ, same) = (self.neighbours_differ, self.same_hall);
+        rows.push(row("neighbours of different sizes", differ, 2_000));
+        rows.push(row("one hall at two sizes", same, 1_000));
+        rows.push(row("order 32 with 16 jobs", self.largest, 200));
+        rows
+    }
+}

@@ -1,0 +1,40 @@
+//! The elimination, as "Ways and elimination" in document 01 states it. It is not meant to be fast.
+
+pub mod damages;
+pub mod host_call;
+pub mod refusal;
+pub mod rust_loop;
+pub mod sse2;
+pub mod tables;
+
+use crate::algebra::Algebra;
+
+/// The closure of a table of `size` times `size` words, row by row.
+pub fn eliminate(algebra: Algebra, size: usize, weights: &[u16]) -> Vec<u16> {
+    let mut table = with_own_diagonal(algebra, size, weights);
+    for k in 0..size {
+        table = step(algebra, size, &table, k);
+    }
+    table
+}
+
+fn with_own_diagonal(algebra: Algebra, size: usize, weights: &[u16]) -> Vec<u16> {
+    let mut table = weights.to_vec();
+    for i in 0..size {
+        table[i * size + i] = algebra.own();
+    }
+    table
+}
+
+/// Every entry reads the table of before the step, as all entries change at once; whether they may also change one
+/// after another is the other side's affair.
+fn step(algebra: Algebra, size: usize, before: &[u16], k: usize) -> Vec<u16> {
+    let mut after = before.to_vec();
+    for i in 0..size {
+        for j in 0..size {
+            let through_k = algebra.product(before[i * size + k], before[k * size + j]);
+            after[i * size + j] = algebra.sum(before[i * size + j], through_k);
+        }
+    }
+    after
+}
