@@ -80,67 +80,79 @@ pub fn two_jobs() -> bool {
     started & before & tick_23 & tick_24 & tick_25 & rest
 }
 
+// Links over five points whose ways need all three passes, and the closed table.
+const LINKS: [u16; 25] = [
+    0,
+    65535,
+    7,
+    65535,
+    2,
+    65535,
+    0,
+    7,
+    1,
+    1,
+    2,
+    1,
+    0,
+    2,
+    1,
+    65535,
+    65535,
+    2,
+    0,
+    7,
+    2,
+    1,
+    7,
+    65535,
+    0,
+];
+
+const CLOSED: [u16; 25] = [
+    0,
+    3,
+    6,
+    4,
+    2,
+    3,
+    0,
+    3,
+    1,
+    1,
+    2,
+    1,
+    0,
+    2,
+    1,
+    4,
+    3,
+    2,
+    0,
+    3,
+    2,
+    1,
+    4,
+    2,
+    0,
+];
+
 // With two passes the way from 0 to 2 would have length 7 and not 6.
 pub fn third_pass() -> bool {
     let n = [5u16];
-    let w = [
-        0u16,
-        65535,
-        7,
-        65535,
-        2,
-        65535,
-        0,
-        7,
-        1,
-        1,
-        2,
-        1,
-        0,
-        2,
-        1,
-        65535,
-        65535,
-        2,
-        0,
-        7,
-        2,
-        1,
-        7,
-        65535,
-        0,
-    ];
-    let closed = [
-        0u16,
-        3,
-        6,
-        4,
-        2,
-        3,
-        0,
-        3,
-        1,
-        1,
-        2,
-        1,
-        0,
-        2,
-        1,
-        4,
-        3,
-        2,
-        0,
-        3,
-        2,
-        1,
-        4,
-        2,
-        0,
-    ];
     let mut state = [9u16; 79];
     let mut scratch = [9u16; 50];
     let mut r = [9u16; 25];
-    let started = starts(1, 5, &n, &w, &mut state, 0);
-    let ran = makes(&mut state, &n, &w, 100, &mut scratch, &mut r, 28, &closed);
+    let started = starts(1, 5, &n, &LINKS, &mut state, 0);
+    let ran = makes(
+        &mut state,
+        &n,
+        &LINKS,
+        100,
+        &mut scratch,
+        &mut r,
+        28,
+        &CLOSED,
+    );
     started & ran
 }
