@@ -22,7 +22,7 @@ fn main() {
             println!("cargo:rustc-link-lib=static={name}");
         } else {
             println!(
-                "cargo:warning=no {}: see README, Benchmark",
+                "cargo:warning=no {}: build it with rt staticlib",
                 archive.display()
             );
         }
