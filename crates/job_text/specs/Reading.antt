@@ -61,6 +61,13 @@ abbrev pub weightsIn : Reading → List ℕ
 weightsIn (refused number line) = []
 weightsIn (accepted order algebra sizes weights) = weights
 
+-- The buffers after a call, from the lengths of both and the text.
+abbrev pub sizesAfter : ℕ → ℕ → List ℕ → List ℕ
+sizesAfter sizes weights text = padded sizes (sizesIn (readingOf sizes weights text))
+
+abbrev pub weightsAfter : ℕ → ℕ → List ℕ → List ℕ
+weightsAfter sizes weights text = padded weights (weightsIn (readingOf sizes weights text))
+
 -- "The reader gives N, algebra, Q": the paper's numbers for an answer.
 pub data Answer : Type 0 where
   turned : ℕ → ℕ → Answer

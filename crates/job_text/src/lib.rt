@@ -5,7 +5,7 @@ ghost use Prim.Native.Nat.{_≤_};
 ghost use lib.ListN.{length};
 ghost use Rattle.job_form.specs.Pieces.{lines};
 ghost use Rattle.job_text.specs.Steps.{go, start};
-ghost use Rattle.job_text.specs.Reading.{follow, readingOf, padded, sizesIn, weightsIn, answerOf, answered};
+ghost use Rattle.job_text.specs.Reading.{follow, readingOf, padded, sizesAfter, weightsAfter, answerOf, answered};
 ghost use Rattle.job_text.specs.States.{stateOf, endedIn, Filled, Owed};
 
 mod answer;
@@ -91,7 +91,8 @@ fn read_within(text: &[u8], sizes: &mut [u16], weights: &mut [u16]) -> Read
     requires { ⌜ length (now text) ≤ 65536 ⌝ }
     requires { ⌜ now sizes ≡ padded (length (now sizes)) [] ⌝ }
     requires { ⌜ now weights ≡ padded (length (now weights)) [] ⌝ }
-    ensures { λ r. ⌜ Owed (length (now (sizes .entry))) (length (now (weights .entry))) (follow 0 (lines (now (text .entry))) (go start)) (answered r) (now (sizes .exit)) (now (weights .exit)) ⌝ }
+    ensures { λ r. ⌜ Owed (length (now (sizes .entry))) (length (now (weights .entry)))
+        (follow 0 (lines (now (text .entry))) (go start)) (answered r) (now (sizes .exit)) (now (weights .exit)) ⌝ }
 {
     let answer = read_lines(text, sizes, weights);
     match answer {
@@ -114,9 +115,12 @@ fn read_within(text: &[u8], sizes: &mut [u16], weights: &mut [u16]) -> Read
 
 // Reads a job text: its sizes and weights into the two buffers, unused words 0. A refusal leaves both buffers 0.
 pub fn read(text: &[u8], sizes: &mut [u16], weights: &mut [u16]) -> Read
-    ensures outcome { λ r. ⌜ answered r ≡ answerOf (readingOf (length (now (sizes .entry))) (length (now (weights .entry))) (now (text .entry))) ⌝ }
-    ensures sizes { λ _. ⌜ now (sizes .exit) ≡ padded (length (now (sizes .entry))) (sizesIn (readingOf (length (now (sizes .entry))) (length (now (weights .entry))) (now (text .entry)))) ⌝ }
-    ensures weights { λ _. ⌜ now (weights .exit) ≡ padded (length (now (weights .entry))) (weightsIn (readingOf (length (now (sizes .entry))) (length (now (weights .entry))) (now (text .entry)))) ⌝ }
+    ensures outcome { λ r. ⌜ answered r
+        ≡ answerOf (readingOf (length (now (sizes .entry))) (length (now (weights .entry))) (now (text .entry))) ⌝ }
+    ensures sizes { λ _. ⌜ now (sizes .exit)
+        ≡ sizesAfter (length (now (sizes .entry))) (length (now (weights .entry))) (now (text .entry)) ⌝ }
+    ensures weights { λ _. ⌜ now (weights .exit)
+        ≡ weightsAfter (length (now (sizes .entry))) (length (now (weights .entry))) (now (text .entry)) ⌝ }
 {
     clear(sizes);
     clear(weights);
