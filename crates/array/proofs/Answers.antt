@@ -3,59 +3,46 @@ use Prim.Native.Nat.{ℕ, suc, _+_, _-_, _≤_, min}
 use native.Mathlib.Omega.{arith}
 use mathlib.Core.Path.{_≡_, refl, ap}
 use mathlib.Core.List.{List}
-use mathlib.Core.Bool.{Bool, true, false, not, cond, _||_}
+use mathlib.Core.Bool.{Bool, true, false, cond}
 use lib.ListN.{length, replicate}
-use lib.Dec.{eqb, ltb, eqb·suc-zero}
-use borrow.Author.Tests.{ltb-false, eqb-true, not-false}
-use Rattle.memory.proofs.Any.{both-false}
+use lib.Dec.{eqb·suc-zero}
+use borrow.Author.Tests.{ltb-false}
 use Rattle.semiring.specs.Named.{namedOf}
 use Rattle.semiring.specs.declared.Algebra.{Algebra}
 use Rattle.semiring.specs.declared.Named.{Named}
 use Rattle.semiring.specs.declared.Named.the-variants.{Known, Unknown}
-use Rattle.closure.specs.Tests.{outside}
+use Rattle.job_list.specs.Fits.{Ranged}
 use Rattle.systolic.specs.State.{orderOf, algebraOf, countOf, tickOf, stateLength, total}
-use Rattle.systolic.specs.Run.{badState, runTests, ticksMade, ranOn, refusedRun, ranBy, ran}
-use Rattle.systolic.proofs.Started.{inside}
+use Rattle.systolic.specs.Run.{badTests, badState, runTests, ticksMade, ranOn, refusedRun, ranBy, ran}
+use Rattle.refusals.proofs.First.{inside, equal, none-of}
 use Rattle.array.specs.declared.head.Header.{Header}
 use Rattle.array.specs.declared.head.HeaderRead.the-variants.{Fit, Unfit}
 use Rattle.array.specs.declared.running.RunAnswer.{RunAnswer}
 use Rattle.array.specs.declared.running.RunAnswer.the-variants.{Made}
-use Rattle.array.specs.Header.{headerIn, headerOf}
+use Rattle.array.specs.inner.Header.{headerIn, headerOf}
 use Rattle.array.specs.RunAnswer.{runNumber, runMade, Answered}
-use Rattle.array.specs.Runnable.{stateMade, resultsMade}
+use Rattle.array.specs.inner.Runnable.{RunLeft}
 
 pub record HeaderFits (h : Header) (a : Algebra) (state : List ℕ) : Type 0 where
   pub named : namedOf (algebraOf state) ≡ Known a
   pub header : h ≡ headerOf state
   pub good : badState state ≡ false
-  pub least : 1 ≤ h .order
-  pub most : h .order ≤ 32
-  pub some : 1 ≤ h .count
-  pub few : h .count ≤ 16
+  pub ranged : Ranged (h .order) (h .count)
   pub state-fits : length state ≡ stateLength (h .order)
   pub within : h .tick ≤ total (h .order) (h .count)
 
 good-state : (a : Algebra) (state : List ℕ) → namedOf (algebraOf state) ≡ Known a → badState state ≡ false → HeaderFits (headerOf state) a state
 good-state a state named e =
-    let short = ltb (length state) 4 in
-    let order = outside 1 32 (orderOf state) in
-    let count = outside 1 16 (countOf state) in
-    let long = not (eqb (length state) (stateLength (orderOf state))) in
-    let late = ltb (total (orderOf state) (countOf state)) (tickOf state) in
-    let (e₁, isLate) = both-false (short || order || count || long) late e in
-    let (e₂, isLong) = both-false (short || order || count) long e₁ in
-    let (e₃, isCount) = both-false (short || order) count e₂ in
-    let (isShort, isOrder) = both-false short order e₃ in
+    let (short, (order, (count, (long, (late, end))))) = none-of (badTests state) e in
+    let (least, most) = inside order in
+    let (some, few) = inside count in
     record {
       named = named;
       header = refl;
       good = e;
-      least = inside isOrder .0;
-      most = inside isOrder .1;
-      some = inside isCount .0;
-      few = inside isCount .1;
-      state-fits = eqb-true (length state) (stateLength (orderOf state)) (not-false (eqb (length state) (stateLength (orderOf state))) isLong);
-      within = ltb-false (total (orderOf state) (countOf state)) (tickOf state) isLate;
+      ranged = record { least = least; most = most; some = some; few = few };
+      state-fits = equal (length state) (stateLength (orderOf state)) long;
+      within = ltb-false (total (orderOf state) (countOf state)) (tickOf state) late;
     }
 
 fit-by : (h : Header) (a′ a : Algebra) (state : List ℕ) (bad : Bool) → namedOf (algebraOf state) ≡ Known a → badState state ≡ bad
@@ -97,13 +84,12 @@ module _ (state sizes weights : List ℕ) (allowance : ℕ) (scratch results : L
   pub run-accepted : (a : Algebra) (made : ℕ) (state′ scratch′ results′ : List ℕ) → namedOf (algebraOf state) ≡ Known a
       → runTests (namedOf (algebraOf state)) state sizes weights scratch results ≡ 0
       → made ≡ ticksMade state allowance
-      → state′ ≡ stateMade a made sizes weights state results
-      → results′ ≡ resultsMade a made sizes weights state results
+      → RunLeft a made sizes weights state results state′ results′
       → scratch′ ≡ replicate (length scratch) 0
       → Answered (Made made) state′ scratch′ results′ (ran state sizes weights allowance scratch results)
   unfolding ranOn
-  run-accepted a made state′ scratch′ results′ named e isMade isState isResults isScratch =
-      rw (accepted-in (namedOf (algebraOf state)) a named e, isState, isResults, isScratch, isMade)
+  run-accepted a made state′ scratch′ results′ named e isMade left isScratch =
+      rw (accepted-in (namedOf (algebraOf state)) a named e, left .state-left, left .results-left, isScratch, isMade)
       (record { number = refl; made = refl; state-after = refl; scratch-after = refl; results-after = refl })
 
 unfit-tests-in : (d : Named) (state sizes weights scratch results : List ℕ) → headerIn d state ≡ Unfit

@@ -1,3 +1,8 @@
 pub mod Answers
+pub mod HeaderNeeds
+pub mod Rooms
+pub mod RunNeeds
 pub mod Split
+pub mod StartNeeds
 pub mod States
+pub mod WithPlanes

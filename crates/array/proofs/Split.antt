@@ -1,28 +1,42 @@
--- A state as its header and its three planes.
-use Prim.Native.Nat.{ℕ, _+_, _*_, _≤_}
-use native.Mathlib.Nat.{mul-le-mul}
+-- The planes of a state, taken out and put back: over plain lists, what each place of that code asks and leaves.
+use Prim.Native.Nat.{ℕ, _+_, _-_, _*_, _≤_}
+use native.Mathlib.Nat.{add-sub-cancel-left}
 use native.Mathlib.Omega.{arith}
-use mathlib.Core.Path.{_≡_, refl, sym, ap, ap₂, _∙_}
-use mathlib.Core.List.{List, [], _∷_, _++_, append-assoc, append-nil}
-use lib.ListN.{length, take, drop, length-append, take-append-drop, length-drop}
+use mathlib.Core.Path.{_≡_, sym, ap, ap₂, _∙_}
+use mathlib.Core.List.{List, [], _++_, append-assoc, append-nil}
+use lib.ListN.{length, getD, take, drop, length-append, take-append-drop, length-drop}
 use lib.Seq.{drop-drop, length-take-le}
 use Rattle.memory.specs.Lists.{replaced}
+use Rattle.memory.specs.Walked.{Walked}
 use Rattle.memory.proofs.Part.{part-length, replaced-seam}
-use Rattle.array.specs.Planed.{Planed, planeAt}
-use Rattle.array.specs.declared.head.Header.{Header}
-use Rattle.array.specs.Header.{headed, headerOf}
-use Rattle.array.specs.Runnable.{Runnable, arrayMade, stateMade}
-use Rattle.semiring.specs.declared.Algebra.{Algebra}
-use Rattle.systolic.specs.Tick.{Array, ticks}
-use Rattle.systolic.specs.State.{stateWords, orderOf, algebraOf, countOf, tickOf}
-use Rattle.systolic.specs.Demand.{jobsOf}
-use Rattle.ticks.specs.Ready.{arrayOf}
+use Rattle.memory.proofs.Walk.{walked-copy}
+use Rattle.job_list.proofs.Fits.{area-fits}
+use Rattle.systolic.specs.State.{stateLength}
+use Rattle.array.specs.inner.Planed.{Planed, Taken, planeAt}
 
-pub area-fits : {n : ℕ} → n ≤ 32 → n * n ≤ 1024
-area-fits h = mul-le-mul h h
+-- one plane
+module _ (state : List ℕ) (at : ℕ) (plane : List ℕ) (fits : at + length plane ≤ length state) where
+  width : at + length plane - at ≡ length plane
+  width = add-sub-cancel-left at (length plane)
+
+  wide : length (take (at + length plane - at) (drop at state)) ≡ length plane
+  wide = part-length at (at + length plane - at) state (omega (arith, width)) ∙ width
+
+  pub plane-taken : (plane′ : List ℕ)
+      → Walked (λ p word. getD (take (at + length plane - at) (drop at state)) p 0) plane (length (take (at + length plane - at) (drop at state))) plane′
+      → plane′ ≡ take (length plane) (drop at state)
+  plane-taken plane′ walked =
+      walked-copy (take (at + length plane - at) (drop at state)) walked (sym wide) ∙ ap (λ (m : ℕ). take m (drop at state)) width
+
+  pub plane-put : (part : List ℕ)
+      → Walked (λ p word. getD plane p 0) (take (at + length plane - at) (drop at state)) (length plane) part
+      → replaced at (at + length plane - at) part state ≡ replaced at (length plane) plane state
+  plane-put part walked =
+      ap (λ (l : List ℕ). replaced at (at + length plane - at) l state) (walked-copy plane walked wide)
+      ∙ ap (λ (m : ℕ). replaced at m plane state) width
 
 -- the part of a state that is plane m
-pub plane-at : (n : ℕ) (state : List ℕ) (m w at : ℕ) → w ≡ n * n → at ≡ 4 + m * (n * n) → take w (drop at state) ≡ planeAt m n state
+plane-at : (n : ℕ) (state : List ℕ) (m w at : ℕ) → w ≡ n * n → at ≡ 4 + m * (n * n) → take w (drop at state) ≡ planeAt m n state
 plane-at n state m w at width place = ap₂ (λ (x y : ℕ). take x (drop y state)) width place
 
 -- a state is its first four words and its planes
@@ -40,12 +54,12 @@ split n state size =
     ∙ ap (λ (l : List ℕ). take area (drop (4 + area) state) ++ l)
     (drop-drop area (4 + area) state ∙ ap (λ (m : ℕ). drop m state) e)))
 
-module _ (n : ℕ) (state c a b : List ℕ) (fit : Planed n state c a b) where
+module _ {n : ℕ} {state c a b : List ℕ} (fit : Planed n state c a b) where
   -- the three planes put one after the other
-  pub planes-put :
+  planes-at :
       replaced (4 + 2 * (n * n)) (n * n) b (replaced (4 + n * n) (n * n) a (replaced 4 (n * n) c state))
       ≡ take 4 state ++ (c ++ (a ++ b))
-  planes-put =
+  planes-at =
       let area : ℕ = n * n in
       let four : List ℕ = take 4 state in
       let first : List ℕ = take area (drop 4 state) in
@@ -68,41 +82,38 @@ module _ (n : ℕ) (state c a b : List ℕ) (fit : Planed n state c a b) where
       ∙ replaced-seam (4 + 2 * area) area ((four ++ c) ++ a) third [] b with-a third-long
       ∙ simp (append-assoc, append-nil)
 
--- a header over four words and the rest
-pub headed-front : (h : Header) (four rest : List ℕ) → length four ≡ 4
-    → headed h (four ++ rest) ≡ h .order ∷ h .algebra ∷ h .count ∷ h .tick ∷ rest
-headed-front h [] rest e = absurd (omega arith)
-headed-front h (x ∷ []) rest e = absurd (omega arith)
-headed-front h (x ∷ y ∷ []) rest e = absurd (omega arith)
-headed-front h (x ∷ y ∷ z ∷ []) rest e = absurd (omega arith)
-headed-front h (x ∷ y ∷ z ∷ w ∷ []) rest e = refl
-headed-front h (x ∷ y ∷ z ∷ w ∷ v ∷ four) rest e = absurd (omega arith)
+  pub planes-taken : (c′ a′ b′ : List ℕ) → c′ ≡ take (length c) (drop 4 state) → a′ ≡ take (length a) (drop (4 + n * n) state)
+      → b′ ≡ take (length b) (drop (4 + 2 * (n * n)) state) → Taken n state c′ a′ b′
+  planes-taken c′ a′ b′ isC isA isB = record {
+    c-taken = isC ∙ plane-at n state 0 (length c) 4 (fit .c-fits) (omega arith);
+    a-taken = isA ∙ plane-at n state 1 (length a) (4 + n * n) (fit .a-fits) (omega arith);
+    b-taken = isB ∙ plane-at n state 2 (length b) (4 + 2 * (n * n)) (fit .b-fits) (omega arith);
+  }
 
--- what a run's ticks leave, from the planes taken out and put back
-pub array-made : (algebra : Algebra) (h : Header) (made : ℕ) (sizes weights state results c a b : List ℕ) {m : Array} → h ≡ headerOf state
-    → c ≡ planeAt 0 (h .order) state → a ≡ planeAt 1 (h .order) state → b ≡ planeAt 2 (h .order) state
-    → m ≡ ticks (jobsOf algebra (h .order) sizes weights) (h .tick) made (arrayOf c a b results)
-    → m ≡ arrayMade algebra made sizes weights state results
-array-made algebra h made sizes weights state results c a b header isC isA isB e =
-    e
-    ∙ rw (isC, isA, isB)
-    (ap (λ (k : Header).
-    ticks (jobsOf algebra (k .order) sizes weights) (k .tick) made
-    (arrayOf (planeAt 0 (k .order) state) (planeAt 1 (k .order) state) (planeAt 2 (k .order) state) results)) header)
+  pub planes-put : (state₁ state₂ state₃ : List ℕ) → state₁ ≡ replaced 4 (length c) c state → state₂ ≡ replaced (4 + n * n) (length a) a state₁
+      → state₃ ≡ replaced (4 + 2 * (n * n)) (length b) b state₂ → state₃ ≡ take 4 state ++ (c ++ (a ++ b))
+  planes-put state₁ state₂ state₃ first second third = third ∙ rw (second, first, fit .c-fits, fit .a-fits, fit .b-fits) planes-at
 
-pub state-made : (algebra : Algebra) (h : Header) (made : ℕ) (sizes weights state results c a b results′ : List ℕ) → h ≡ headerOf state
-    → 4 ≤ length state → arrayOf c a b results′ ≡ arrayMade algebra made sizes weights state results
-    → headed (record { order = h .order; algebra = h .algebra; count = h .count; tick = h .tick + made }) (take 4 state ++ (c ++ (a ++ b)))
-    ≡ stateMade algebra made sizes weights state results
-state-made algebra h made sizes weights state results c a b results′ header long e =
-    headed-front (record { order = h .order; algebra = h .algebra; count = h .count; tick = h .tick + made }) (take 4 state) (c ++ (a ++ b))
-    (length-take-le 4 state long)
-    ∙ ap (λ (k : Header). k .order ∷ k .algebra ∷ k .count ∷ (k .tick + made) ∷ (c ++ (a ++ b))) header
-    ∙ ap (λ (m : Array). stateWords (orderOf state) (algebraOf state) (countOf state) (tickOf state + made) (m .planes)) e
+  -- each plane lies within the state
+  pub c-room : (size : ℕ) → size ≡ length state → (4 + length c ≤ size) × (size ≤ 3076)
+  c-room size same = omega (arith, area-fits (fit .most), fit .state-fits, fit .c-fits)
 
-pub tick-fits : {h : Header} {made : ℕ} {sizes weights state results : List ℕ} → Runnable h made sizes weights state results → h .tick + made ≤ 2110
-tick-fits {h} {sizes = sizes} fit = omega (arith, mul-le-mul (fit .most) (fit .few), fit .ticks-left)
+  pub a-room : (size : ℕ) → size ≡ length state → (4 + n * n + length a ≤ size) × (size ≤ 3076)
+  a-room size same = omega (arith, area-fits (fit .most), fit .state-fits, fit .a-fits)
+
+  pub b-room : (size : ℕ) → size ≡ length state → (4 + 2 * (n * n) + length b ≤ size) × (size ≤ 3076)
+  b-room size same = omega (arith, area-fits (fit .most), fit .state-fits, fit .b-fits)
 
 -- the first n² words of a room for 32 squared
-pub front : {n : ℕ} (l : List ℕ) → n ≤ 32 → length l ≡ 1024 → length (take (n * n) l) ≡ n * n
-front {n} l h e = length-take-le (n * n) l (omega (arith, area-fits h))
+module _ (n : ℕ) (most : n ≤ 32) where
+  pub front-room : (size : ℕ) → size ≡ 1024 → n * n ≤ size
+  front-room size e = omega (arith, area-fits most)
+
+  pub front : (l : List ℕ) → length l ≡ 1024 → n * n ≡ length (take (n * n) l)
+  front l e = sym (length-take-le (n * n) l (front-room (length l) e))
+
+  -- three of them beside a state
+  pub fronts : (state c a b : List ℕ) → length state ≡ stateLength n → length c ≡ 1024 → length a ≡ 1024 → length b ≡ 1024
+      → Planed n state (take (n * n) c) (take (n * n) a) (take (n * n) b)
+  fronts state c a b fits isC isA isB =
+      record { most = most; state-fits = fits; c-fits = sym (front c isC); a-fits = sym (front a isA); b-fits = sym (front b isB) }

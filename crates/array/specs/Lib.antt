@@ -1,6 +1,4 @@
-pub mod Header
-pub mod Planed
-pub mod Range
 pub mod RunAnswer
-pub mod Runnable
 pub mod StartAnswer
+pub mod StartLeft
+pub mod inner

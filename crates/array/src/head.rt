@@ -2,10 +2,9 @@
 ghost use mathlib.Core.Path.{_≡_};
 ghost use Prim.Native.Nat.{_+_, _-_, _≤_};
 ghost use lib.ListN.{length};
-ghost use Rattle.semiring.specs.Named.{namedOf};
-ghost use Rattle.systolic.specs.State.{total, algebraOf};
-ghost use Rattle.array.specs.Header.{headed, headerIn};
-ghost use Rattle.array.specs.Range.{Ranged};
+ghost use Rattle.job_list.specs.Fits.{Ranged};
+ghost use Rattle.systolic.specs.State.{total};
+ghost use Rattle.array.specs.inner.Header.{headed, Told};
 use semiring::Algebra;
 use semiring::Named;
 use semiring::from_number;
@@ -75,7 +74,7 @@ fn wide(word: u16) -> u32
 
 // Test 10.
 pub fn read_header(state: &[u16]) -> HeaderRead
-    ensures { λ r. ⌜ r ≡ headerIn (namedOf (algebraOf (now (state .entry)))) (now (state .entry)) ⌝ }
+    ensures { λ r. ⌜ Told r (now (state .entry)) ⌝ }
 {
     if state.len() < 4 {
         return HeaderRead::Unfit;

@@ -2,7 +2,6 @@
 mod head;
 mod planes;
 mod running;
-mod sizes;
 mod starting;
 
 pub use running::RunAnswer;

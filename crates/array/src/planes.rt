@@ -4,7 +4,7 @@ ghost use Prim.Native.Nat.{_+_, _*_, _≤_};
 ghost use mathlib.Core.List.{_++_};
 ghost use lib.ListN.{length, take, drop};
 ghost use Rattle.memory.specs.Lists.{replaced};
-ghost use Rattle.array.specs.Planed.{Planed, planeAt};
+ghost use Rattle.array.specs.inner.Planed.{Planed, Taken};
 use memory::copy;
 
 // The words of the state from `at` on, as many as the plane has.
@@ -28,8 +28,7 @@ fn put_plane(plane: &[u16], at: usize, state: &mut [u16])
 // The three planes of a state of order n.
 pub fn take_planes(n: usize, state: &[u16], c: &mut [u16], a: &mut [u16], b: &mut [u16])
     requires { ⌜ Planed n (now state) (now c) (now a) (now b) ⌝ }
-    ensures { λ _. ⌜ (now (c .exit) ≡ planeAt 0 n (now (state .entry))) × (now (a .exit) ≡ planeAt 1 n (now (state .entry)))
-        × (now (b .exit) ≡ planeAt 2 n (now (state .entry))) ⌝ }
+    ensures { λ _. ⌜ Taken n (now (state .entry)) (now (c .exit)) (now (a .exit)) (now (b .exit)) ⌝ }
 {
     let area = n * n;
     take_plane(state, 4, c);

@@ -1,21 +1,22 @@
 // Run: ticks of a started array.
 ghost use mathlib.Core.Path.{_≡_};
-ghost use Prim.Native.Nat.{_*_, min};
+ghost use Prim.Native.Nat.{min};
 ghost use lib.ListN.{length};
 ghost use Rattle.systolic.specs.Run.{ran};
 ghost use Rattle.array.specs.RunAnswer.{runNumber, runMade, Answered};
-ghost use Rattle.array.specs.Runnable.{Runnable, stateMade, resultsMade};
+ghost use Rattle.array.specs.inner.Planed.{Planed};
+ghost use Rattle.array.specs.inner.Runnable.{Runnable, RunLeft};
 use crate::head::Header;
 use crate::head::HeaderRead;
 use crate::head::read_header;
 use crate::head::store_header;
 use crate::planes::put_planes;
 use crate::planes::take_planes;
-use crate::sizes::any_outside;
-use crate::sizes::words_of;
-use elimination::has_word_above;
+use job_list::any_outside;
+use job_list::words_before;
 use memory::clear;
 use semiring::Algebra;
+use semiring::has_word_above;
 use ticks::advance;
 
 // What a call of run answers: the ticks made, or why it turned back.
@@ -43,11 +44,10 @@ fn with_planes(
     a: &mut [u16],
     b: &mut [u16],
 )
-    requires { ⌜ Runnable header made (now sizes) (now weights) (now state) (now results) ⌝ }
-    requires { ⌜ (length (now c) ≡ header .order * header .order) × (length (now a) ≡ header .order * header .order)
-        × (length (now b) ≡ header .order * header .order) ⌝ }
-    ensures { λ _. ⌜ (now (state .exit) ≡ stateMade algebra made (now (sizes .entry)) (now (weights .entry)) (now (state .entry)) (now (results .entry)))
-        × (now (results .exit) ≡ resultsMade algebra made (now (sizes .entry)) (now (weights .entry)) (now (state .entry)) (now (results .entry))) ⌝ }
+    requires { ⌜ Runnable algebra header made (now sizes) (now weights) (now state) (now results) ⌝ }
+    requires { ⌜ Planed (header .order) (now state) (now c) (now a) (now b) ⌝ }
+    ensures { λ _. ⌜ RunLeft algebra made (now (sizes .entry)) (now (weights .entry)) (now (state .entry)) (now (results .entry))
+        (now (state .exit)) (now (results .exit)) ⌝ }
 {
     let n = header.order as usize;
     let tick = header.tick as usize;
@@ -84,9 +84,9 @@ fn proceed(
     state: &mut [u16],
     results: &mut [u16],
 )
-    requires { ⌜ Runnable header made (now sizes) (now weights) (now state) (now results) ⌝ }
-    ensures { λ _. ⌜ (now (state .exit) ≡ stateMade algebra made (now (sizes .entry)) (now (weights .entry)) (now (state .entry)) (now (results .entry)))
-        × (now (results .exit) ≡ resultsMade algebra made (now (sizes .entry)) (now (weights .entry)) (now (state .entry)) (now (results .entry))) ⌝ }
+    requires { ⌜ Runnable algebra header made (now sizes) (now weights) (now state) (now results) ⌝ }
+    ensures { λ _. ⌜ RunLeft algebra made (now (sizes .entry)) (now (weights .entry)) (now (state .entry)) (now (results .entry))
+        (now (state .exit)) (now (results .exit)) ⌝ }
 {
     let mut c = plane_room();
     let mut a = plane_room();
@@ -137,7 +137,7 @@ pub fn run(
     if any_outside(order, sizes) {
         return RunAnswer::SizeOutside;
     }
-    let words = words_of(sizes);
+    let words = words_before(sizes, sizes.len());
     if weights.len() != words {
         return RunAnswer::WeightsLength;
     }

@@ -1,18 +1,18 @@
 // Start: a state laid out for a list of jobs.
 ghost use mathlib.Core.Path.{_≡_};
 ghost use lib.ListN.{length};
-ghost use Rattle.semiring.specs.Named.{namedOf};
 ghost use Rattle.systolic.specs.State.{stateWords, stateLength};
-ghost use Rattle.systolic.specs.Start.{startTests, stateAfterStart, zeroPlanes};
+ghost use Rattle.systolic.specs.Start.{zeroPlanes};
+ghost use Rattle.array.specs.StartLeft.{StartLeft};
 ghost use Rattle.array.specs.StartAnswer.{startNumber};
 use crate::head::Header;
 use crate::head::store_header;
-use crate::sizes::any_outside;
-use crate::sizes::words_of;
-use elimination::has_word_above;
+use job_list::any_outside;
+use job_list::words_before;
 use memory::clear;
 use semiring::Named;
 use semiring::from_number;
+use semiring::has_word_above;
 
 // What a call of start answers: that the state is laid out, or why it turned back.
 pub enum StartAnswer {
@@ -44,10 +44,7 @@ pub fn start(
     weights: &[u16],
     state: &mut [u16],
 ) -> StartAnswer
-    ensures outcome { λ r. ⌜ startNumber r
-        ≡ startTests (namedOf algebra) order (now (sizes .entry)) (now (weights .entry)) (now (state .entry)) ⌝ }
-    ensures memory { λ _. ⌜ now (state .exit)
-        ≡ stateAfterStart algebra order (now (sizes .entry)) (now (weights .entry)) (now (state .entry)) ⌝ }
+    ensures { λ r. ⌜ StartLeft r algebra order (now (sizes .entry)) (now (weights .entry)) (now (state .entry)) (now (state .exit)) ⌝ }
 {
     let Named::Known(a) = from_number(algebra) else {
         return StartAnswer::AlgebraUnknown;
@@ -67,7 +64,7 @@ pub fn start(
     if any_outside(order, sizes) {
         return StartAnswer::SizeOutside;
     }
-    if weights.len() != words_of(sizes) {
+    if weights.len() != words_before(sizes, sizes.len()) {
         return StartAnswer::WeightsLength;
     }
     if state.len() != 4 + 3 * (order * order) {

@@ -2,12 +2,14 @@
 // error; after a failed read nothing is printed.
 ghost use mathlib.Core.Path.{_≡_};
 ghost use lib.ListN.{length};
+ghost use Rattle.sheet.specs.Sheet.{sheetOf};
 
 mod input;
 
 use input::read_all;
 use libc::STDOUT_FILENO;
-use sheet::print_sheet;
+use sheet::PAGE_BYTES;
+use sheet::print_whole;
 
 // Room for a text at the limit and one byte more, so that a longer one can be told.
 fn text_room() -> [u8; 65537]
@@ -16,14 +18,10 @@ fn text_room() -> [u8; 65537]
     [0u8; 65537]
 }
 
-// Room for every sheet.
-fn page_room() -> [u8; 426005]
-    ensures { λ r. ⌜ length r ≡ 426005 ⌝ }
+// Writes the sheet of a text, whole.
+fn write(text: &[u8], sheet: &[u8])
+    requires { ⌜ now sheet ≡ sheetOf (now text) ⌝ }
 {
-    [0u8; 426005]
-}
-
-fn write(sheet: &[u8]) {
     let written = io::write_all(STDOUT_FILENO, sheet);
     if !written {
         os::fail(b"write");
@@ -31,9 +29,9 @@ fn write(sheet: &[u8]) {
 }
 
 fn print(text: &[u8]) {
-    let mut page = page_room();
-    let n = print_sheet(text, &mut page);
-    write(&page[..n]);
+    let mut page = [0u8; PAGE_BYTES];
+    let n = print_whole(text, &mut page);
+    write(text, &page[..n]);
 }
 
 fn main() {

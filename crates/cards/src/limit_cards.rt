@@ -1,6 +1,7 @@
 // Card B11: the borders of each number, and runs that make no tick.
 use crate::array_cards::makes;
 use crate::array_cards::starts;
+use crate::verdict::same;
 use paths::eliminate;
 use paths::number;
 
@@ -47,6 +48,63 @@ fn no_ticks() -> bool {
     let all = makes(&mut state, &n, &w, 65535, &mut scratch, &mut r, 4, &[0u16]);
     let finished = makes(&mut state, &n, &w, 5, &mut scratch, &mut r, 0, &[0u16]);
     started & none & all & finished
+}
+
+// A run of one job of size 2 on an array of order 2 that makes no tick and changes no result; it leaves the given state, and
+// the scratch full of the given word.
+pub fn leaves(before: [u16; 16], allowance: u16, after: [u16; 16], word: u16) -> bool {
+    let held = [9u16, 8, 7, 6];
+    let mut state = before;
+    let mut scratch = [9u16; 8];
+    let mut r = held;
+    let n = [2u16];
+    let w = [0u16, 5, 65535, 0];
+    let ran = makes(
+        &mut state,
+        &n,
+        &w,
+        allowance,
+        &mut scratch,
+        &mut r,
+        0,
+        &held,
+    );
+    ran & same(&state, &after) & same(&scratch, &[word; 8])
+}
+
+fn unchanged(state: [u16; 16], allowance: u16) -> bool {
+    leaves(state, allowance, state, 0)
+}
+
+// A state of 10 ticks in all whose planes hold any words.
+pub fn at_tick(tick: u16) -> [u16; 16] {
+    [
+        2,
+        1,
+        1,
+        tick,
+        65535,
+        7,
+        0,
+        40000,
+        3,
+        1,
+        65534,
+        9,
+        8,
+        2,
+        65535,
+        6,
+    ]
+}
+
+// Allowance 0 on a fresh state, on half-run ones and on a finished one, and allowances on a finished one.
+pub fn zero_ticks() -> bool {
+    let mut fresh = [9u16; 16];
+    let started = starts(1, 2, &[2u16], &[0u16, 5, 65535, 0], &mut fresh, 0);
+    let none = unchanged(fresh, 0) & unchanged(at_tick(5), 0) & unchanged(at_tick(10), 0);
+    let finished = unchanged(at_tick(10), 5) & unchanged(at_tick(10), 65535);
+    started & none & finished
 }
 
 pub fn all() -> bool {

@@ -4,6 +4,7 @@ mod limit_cards;
 mod listing_card;
 mod table_cards;
 mod verdict;
+mod wrong_cards;
 
 use verdict::tell;
 
@@ -21,4 +22,6 @@ fn main() {
     tell(b"B11: ", limit_cards::all());
     tell(b"elimination, last pass: ", table_cards::last_pass());
     tell(b"array, third pass: ", array_cards::third_pass());
+    tell(b"array, zero ticks: ", limit_cards::zero_ticks());
+    wrong_cards::tell_all();
 }

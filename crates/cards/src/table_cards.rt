@@ -3,7 +3,7 @@ use crate::verdict::same;
 use paths::eliminate;
 use paths::number;
 
-fn closes(
+pub fn closes(
     algebra: u32,
     size: usize,
     weights: &[u16],

@@ -1,16 +1,28 @@
 // Whether a card passed, to standard output.
+ghost use mathlib.Core.Path.{_≡_};
+ghost use lib.ListN.{length, take};
+ghost use Rattle.text.specs.Pieces.{same as equalLists};
+ghost use Rattle.cards.specs.Verdict.{verdictOf};
 use libc::STDOUT_FILENO;
+use text::equal;
+
+fn verdict(passed: bool) -> [u8; 5]
+    ensures { λ r. ⌜ r ≡ verdictOf passed ⌝ }
+{
+    if passed {
+        return [b'p', b'a', b's', b's', b'\n'];
+    }
+    [b'F', b'A', b'I', b'L', b'\n']
+}
 
 pub fn tell(card: &[u8], passed: bool) {
     io::write_all(STDOUT_FILENO, card);
-    if passed {
-        io::write_all(STDOUT_FILENO, b"pass\n");
-    } else {
-        io::write_all(STDOUT_FILENO, b"FAIL\n");
-    }
+    io::write_all(STDOUT_FILENO, &verdict(passed));
 }
 
-pub fn same(words: &[u16], expected: &[u16]) -> bool {
+pub fn same(words: &[u16], expected: &[u16]) -> bool
+    ensures { λ r. ⌜ r ≡ equalLists (now (words .entry)) (now (expected .entry)) ⌝ }
+{
     if words.len() != expected.len() {
         return false;
     }
@@ -24,16 +36,13 @@ pub fn same(words: &[u16], expected: &[u16]) -> bool {
     true
 }
 
-pub fn begins(page: &[u8], text: &[u8]) -> bool {
-    if page.len() < text.len() {
-        return false;
+// Whether the page's first bytes are the text.
+pub fn begins(page: &[u8], text: &[u8]) -> bool
+    ensures { λ r. ⌜ r ≡ equalLists (take (length (now (text .entry))) (now (page .entry))) (now (text .entry)) ⌝ }
+{
+    let n = text.len();
+    if n <= page.len() {
+        return equal(&page[..n], text);
     }
-    let mut p = 0;
-    while p < text.len() {
-        if page[p] != text[p] {
-            return false;
-        }
-        p += 1;
-    }
-    true
+    false
 }

@@ -1,18 +1,8 @@
 -- Rows, passes and parts as products: the bounds that the code's numbers need.
 use Prim.Native.Nat.{ℕ, zero, suc, _+_, _-_, _*_, _<_, _≤_}
-use native.Mathlib.Nat.{mul-le-mul, mul-le-mul-right}
+use native.Mathlib.Nat.{mul-le-mul-right}
 use native.Mathlib.Omega.{arith}
 use mathlib.Core.Path.{_≡_}
-use Rattle.systolic.specs.State.{total}
-
-pub row-fits : {i n : ℕ} → i < n → i * n + n ≤ n * n
-row-fits {i} {n} h = omega (arith, mul-le-mul-right n h)
-
-pub square-fits : {m n : ℕ} → m ≤ n → m * m ≤ n * n
-square-fits h = mul-le-mul h h
-
-pub area-fits : {n : ℕ} → n ≤ 32 → n * n ≤ 1024
-area-fits h = square-fits h
 
 -- a row before another
 pub rows-apart : {m i : ℕ} (n : ℕ) → m < i → m * n + n ≤ i * n
@@ -40,10 +30,6 @@ pass-some n (suc pass) h = omega arith
 pub last-row : (n : ℕ) → n * n - n ≡ (n - 1) * n
 last-row zero = omega arith
 last-row (suc n) = let e : suc n - 1 ≡ n = omega arith in rw e (omega arith)
-
--- the ticks of the largest list
-pub total-most : {n count : ℕ} → n ≤ 32 → count ≤ 16 → total n count ≤ 2110
-total-most {n} {count} h k = omega (arith, mul-le-mul h k)
 
 -- the rows before row i, and that there are some
 pub rows-fit : {i : ℕ} (n : ℕ) → i ≤ n → i * n ≤ n * n

@@ -9,14 +9,14 @@ use lib.Seq.{getD-set-same, getD-set-other, getD-take, length-take-le}
 use Rattle.semiring.specs.declared.Algebra.{Algebra}
 use Rattle.memory.specs.Lists.{replaced}
 use Rattle.memory.proofs.Part.{part-length, part-word, replaced-length, replaced-before, replaced-inside, replaced-after}
-use Rattle.memory.proofs.Walk.{Walked}
+use Rattle.memory.proofs.Walk.{spanned-to, spanned-as}
 use Rattle.closure.specs.Table.{entries}
-use Rattle.systolic.specs.Cell.{Planes, Cell}
-use Rattle.systolic.proofs.Ticks.{Sized}
+use Rattle.systolic.specs.Cell.{Planes, Cell, Sized}
 use Rattle.cells.specs.declared.turn.Turn.{Turn}
-use Rattle.cells.specs.Span.{Spanned, Worked, cellAt, memories}
+use Rattle.memory.specs.Walked.{Spanned, Walked}
+use Rattle.cells.specs.Span.{Worked, cellAt, memories}
 use Rattle.cells.specs.Cells.{rowCell, shifted, aboveOf}
-use Rattle.cells.proofs.Geometry.{row-fits}
+use Rattle.memory.proofs.Geometry.{row-fits}
 use Rattle.cells.proofs.Parts.{worked-as}
 
 -- Words w of each memory from `at` on, and the memories once m is given back for them.
@@ -142,15 +142,9 @@ shifted-done word row {old} {l} {n} some h e s = record {
 pub over-top : (n : ℕ) {i : ℕ} (top b : List ℕ) {old new : List ℕ} → i ≡ 0 → n ≤ length top
     → (let part : List ℕ = take n top in Walked (λ p word. getD part p 0) old (length part) new)
     → Spanned (λ j word. aboveOf n top b i j) old 0 n new
-over-top n top b {old} {new} e long copied = rw e (record {
-  size = copied .size;
-  inside = λ j h k. copied .done j (omega (arith, size)) ∙ getD-take n top j 0 k;
-  before = λ j h. absurd (omega arith);
-  after = λ j h. copied .rest j (omega (arith, size));
-})
-  where
-    size : length (take n top) ≡ n
-    size = length-take-le n top long
+over-top n top b e long copied =
+    let size : length (take n top) ≡ n = length-take-le n top long in
+    rw e (spanned-to (spanned-as copied (λ j h k. getD-take n top j 0 (omega arith))) size)
 
 -- a row lent for a copy; `at` and w are its place and n in the words of the code
 module _ (n i at w : ℕ) (b : List ℕ) (row : i < n) (place : at ≡ i * n) (width : w ≡ n) (size : length b ≡ n * n) {old new : List ℕ}
@@ -159,15 +153,9 @@ module _ (n i at w : ℕ) (b : List ℕ) (row : i < n) (place : at ≡ i * n) (w
   fits-at = omega (arith, row-fits row)
 
   pub row-copied : Spanned (λ j word. entries n b i j) old 0 n new
-  row-copied = record {
-    size = copied .size;
-    inside = λ j h k.
-        copied .done j (omega (arith, part-length at w b fits-at))
-        ∙ part-word at w b fits-at j (omega arith)
-        ∙ ap (λ (m : ℕ). getD b (m + j) 0) place;
-    before = λ j h. absurd (omega arith);
-    after = λ j h. copied .rest j (omega (arith, part-length at w b fits-at));
-  }
+  row-copied =
+      let long : length (take w (drop at b)) ≡ n = part-length at w b fits-at ∙ width in
+      spanned-to (spanned-as copied (λ j h k. part-word at w b fits-at j (omega arith) ∙ ap (λ (m : ℕ). getD b (m + j) 0) place)) long
 
 pub over-row : (n i at w : ℕ) (top b : List ℕ) {old new : List ℕ} → i ≢ 0 → i < n → at ≡ i * n - n → w ≡ n → length b ≡ n * n
     → (let part : List ℕ = take w (drop at b) in Walked (λ p word. getD part p 0) old (length part) new)

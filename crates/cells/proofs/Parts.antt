@@ -14,9 +14,10 @@ use Rattle.semiring.specs.declared.Algebra.{Algebra}
 use Rattle.systolic.specs.Cell.{Planes, Cell}
 use Rattle.cells.specs.declared.turn.Turn.{Turn}
 use Rattle.cells.specs.Turn.{live, passIn}
-use Rattle.cells.specs.Span.{Spanned, Worked, cellAt, memories}
-use Rattle.cells.specs.Cells.{begun, summed, partCell, turnCell, rowCell}
-use Rattle.cells.proofs.Span.{spanned-same, spanned-as, spanned-over}
+use Rattle.memory.specs.Walked.{Spanned}
+use Rattle.cells.specs.Span.{Worked, cellAt, memories}
+use Rattle.cells.specs.Cells.{cStart, summed, partCell, turnCell, rowCell}
+use Rattle.memory.proofs.Walk.{spanned-same, spanned-as, spanned-over}
 
 eqb-iff : (a b x y : ℕ) → (a ≡ b → x ≡ y) → (x ≡ y → a ≡ b) → eqb a b ≡ eqb x y
 eqb-iff a b x y f g = go (ℕ-discrete a b)
@@ -49,25 +50,25 @@ row-here {p} {i} {k} j e h b =
     rw (lt-ltb p 3 (omega arith), and-true (eqb (k - j) i)) (eqb-iff j (k - i) (k - j) i (λ f. omega arith) (λ f. omega arith))
 
 module _ (algebra : Algebra) where
-  begun-on : (p k c : ℕ) → p ≡ 0 → k ≡ 0 → begun algebra p k c ≡ noneOf algebra
+  begun-on : (p k c : ℕ) → p ≡ 0 → k ≡ 0 → cStart algebra p k c ≡ noneOf algebra
   begun-on p k c e f = rw (eq-eqb p 0 e, eq-eqb k 0 f)
 
-  begun-off : (p k c : ℕ) → (p ≡ 0 → k ≡ 0 → ⊥) → begun algebra p k c ≡ c
+  begun-off : (p k c : ℕ) → (p ≡ 0 → k ≡ 0 → ⊥) → cStart algebra p k c ≡ c
   begun-off p k c f = go (ℕ-discrete p 0)
     where
-      go : Dec (p ≡ 0) → begun algebra p k c ≡ c
+      go : Dec (p ≡ 0) → cStart algebra p k c ≡ c
       go (yes e) = rw (ne-eqb k 0 (f e), and-false (eqb p 0))
       go (no e) = rw (ne-eqb p 0 e)
 
   -- c in the part's cell at point 0, or in none
   pub begun-here : {c : List ℕ} {p k from to : ℕ} (v : ℕ) → p ≡ 0 → from ≤ k → k < to → to ≤ length c → to ≤ k + 1
-      → v ≡ noneOf algebra → Spanned (λ j word. begun algebra p (k - j) word) c from to (set c k v)
+      → v ≡ noneOf algebra → Spanned (λ j word. cStart algebra p (k - j) word) c from to (set c k v)
   begun-here {c} {p} {k} v e h h′ b l f =
       spanned-over k v spanned-same h h′ (omega arith) (f ∙ sym (begun-on p (k - k) (getD c k 0) e (omega arith)))
       (λ j u w d. sym (begun-off p (k - j) (getD c j 0) (λ g g′. d (omega arith))))
 
   pub begun-none : {c : List ℕ} {p k from to : ℕ} → to ≤ k + 1 → (p ≡ 0 → from ≤ k → k < to → ⊥)
-      → Spanned (λ j word. begun algebra p (k - j) word) c from to c
+      → Spanned (λ j word. cStart algebra p (k - j) word) c from to c
   begun-none {c} {p} {k} l f =
       spanned-as spanned-same
       (λ j u w. sym (begun-off p (k - j) (getD c j 0) (λ g g′. f g (omega arith) (omega arith))))
@@ -80,7 +81,7 @@ module _ (algebra : Algebra) where
 
   -- The walks over a part, one after the other.
   pub work-done : (p i k own row : ℕ) (left above : List ℕ) {from to : ℕ} {c c₁ c₂ a a₁ b b₁ : List ℕ} → to ≤ k + 1
-      → Spanned (λ j word. begun algebra p (k - j) word) c from to c₁
+      → Spanned (λ j word. cStart algebra p (k - j) word) c from to c₁
       → Spanned (λ j word. summed algebra p (getD left j 0) (getD above j 0) word) c₁ from to c₂
       → ((j : ℕ) → j < to → j ≤ k → eqb j own ≡ eqb (k - j) j)
       → Spanned (λ j word. cond (eqb j own) (getD c₂ j 0) (getD left j 0)) a from to a₁
@@ -97,7 +98,7 @@ module _ (algebra : Algebra) where
   }
     where
       N : ℕ → ℕ
-      N j = summed algebra p (getD left j 0) (getD above j 0) (begun algebra p (k - j) (getD c j 0))
+      N j = summed algebra p (getD left j 0) (getD above j 0) (cStart algebra p (k - j) (getD c j 0))
 
       new : (j : ℕ) → from ≤ j → j < to → getD c₂ j 0 ≡ N j
       new j h h′ =

@@ -3,14 +3,16 @@ use Prim.Native.Nat.{ℕ, _+_, _-_, _*_, _<_, _≤_}
 use native.Mathlib.Nat.{mul-le-mul-left}
 use native.Mathlib.Omega.{arith}
 use native.Mathlib.Decide.{decLt}
-use mathlib.Core.Path.{_≡_, refl, ap}
-use mathlib.Core.Bool.{Bool, true, false, cond, and-false}
+use mathlib.Core.Path.{_≡_, refl, sym, ap, _∙_}
+use mathlib.Core.Bool.{Bool, true, false, cond, not, and-false}
 use lib.Dec.{leb, ltb}
-use borrow.Author.Tests.{leb-true, ltb-true, ltb-false, lt-leb, le-ltb, le-leb}
-use Rattle.systolic.specs.Jobs.{Jobs, count}
+use borrow.Author.Tests.{not-true, not-false, leb-true, ltb-true, ltb-false, lt-leb, le-ltb, le-leb}
+use Rattle.job_list.specs.Jobs.{Jobs, count}
 use Rattle.systolic.specs.Cell.{Planes, cellOf, stepped}
 use Rattle.systolic.specs.Tick.{works, cellAfter}
-use Rattle.systolic.proofs.Digits.{both-true, same-digits, Step, step-cell, idle-cell}
+use Rattle.memory.proofs.Any.{both-true}
+use Rattle.memory.proofs.Geometry.{same-digits}
+use Rattle.systolic.proofs.Digits.{Step, step-cell, idle-cell}
 use Rattle.cells.specs.Turn.{live, jobIn, passIn}
 
 -- Cell (i, j) is at point k of a pass on tick t.
@@ -64,3 +66,10 @@ module _ (J : Jobs) {t i j pass k : ℕ} (on : On (J .order) t i j pass k) where
           → cellAfter J t r i j ≡ cond b (stepped J r (jobIn pass) (passIn pass) k i j) (cellOf J r i j)
       go true e = step-cell (on-step e) i j (on-tick e) r
       go false e = idle-cell J t r i j (on-idle e)
+
+-- What `live` answered, after a branch on its negation.
+pub live-told : {answer is : Bool} → answer ≡ is → not answer ≡ false → is ≡ true
+live-told {answer} e f = sym e ∙ not-false answer f
+
+pub idle-told : {answer is : Bool} → answer ≡ is → not answer ≡ true → is ≡ false
+idle-told {answer} e f = sym e ∙ not-true answer f

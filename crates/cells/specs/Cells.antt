@@ -8,15 +8,15 @@ use lib.Dec.{eqb, leb, ltb}
 use Rattle.semiring.specs.Algebra.{noneOf, sumOf, productOf}
 use Rattle.semiring.specs.declared.Algebra.{Algebra}
 use Rattle.closure.specs.Table.{entries}
-use Rattle.systolic.specs.Jobs.{Jobs, count}
+use Rattle.job_list.specs.Jobs.{Jobs, count}
 use Rattle.systolic.specs.Cell.{Planes, Cell, cellOf, bIn}
 use Rattle.systolic.specs.Tick.{cellAfter}
 use Rattle.cells.specs.declared.turn.Turn.{Turn}
 use Rattle.cells.specs.Turn.{live, jobIn, passIn}
 
 -- c before the sum: "c starts as none when p = 0 and k = 0, else as c."
-abbrev pub begun : Algebra → ℕ → ℕ → ℕ → ℕ
-begun algebra p k c = cond (eqb p 0 && eqb k 0) (noneOf algebra) c
+abbrev pub cStart : Algebra → ℕ → ℕ → ℕ → ℕ
+cStart algebra p k c = cond (eqb p 0 && eqb k 0) (noneOf algebra) c
 
 -- "For p < 3 it becomes the sum of c and the product of a in and b in; for p = 3 it stays."
 abbrev pub summed : Algebra → ℕ → ℕ → ℕ → ℕ → ℕ
@@ -25,7 +25,7 @@ summed algebra p left above c = cond (ltb p 3) (sumOf algebra c (productOf algeb
 -- Cell (i, j) at point k of pass p, of which `left` and `above` come in.
 abbrev pub worked : Algebra → ℕ → ℕ → ℕ → ℕ → ℕ → ℕ → ℕ → Cell
 worked algebra p k i j left above c =
-    let new = summed algebra p left above (begun algebra p k c) in
+    let new = summed algebra p left above (cStart algebra p k c) in
     record { c = new; a = cond (eqb k j) new left; b = cond (eqb k i && ltb p 3) new above }
 
 -- The cells of row i in one pass p, in which column j is at point k - j.

@@ -1,16 +1,9 @@
--- A walk over a part of a memory.
+-- The memories of the three planes, and a walk over a part of them.
 use Prim.Native.Nat.{ℕ, _<_, _≤_}
 use mathlib.Core.Path.{_≡_}
 use mathlib.Core.List.{List}
 use lib.ListN.{length, getD}
 use Rattle.systolic.specs.Cell.{Planes, Cell}
-
--- Each word j with from ≤ j < to is f j of the old one, the others are as they were.
-pub record Spanned (f : ℕ → ℕ → ℕ) (old : List ℕ) (from to : ℕ) (new : List ℕ) : Type 0 where
-  pub size : length new ≡ length old
-  pub inside : (j : ℕ) → from ≤ j → j < to → getD new j 0 ≡ f j (getD old j 0)
-  pub before : (j : ℕ) → j < from → getD new j 0 ≡ getD old j 0
-  pub after : (j : ℕ) → to ≤ j → getD new j 0 ≡ getD old j 0
 
 -- The words at place j of the memories c, a and b.
 abbrev pub cellAt : Planes → ℕ → Cell
@@ -20,7 +13,7 @@ cellAt r j = record { c = getD (r .c) j 0; a = getD (r .a) j 0; b = getD (r .b) 
 abbrev pub memories : List ℕ → List ℕ → List ℕ → Planes
 memories c a b = record { c = c; a = a; b = b }
 
--- The same walk over three memories at once.
+-- Each place j with from ≤ j < to has f j of the old words, the others are as they were: `Spanned` over three memories at once.
 pub record Worked (f : ℕ → Cell → Cell) (old : Planes) (from to : ℕ) (new : Planes) : Type 0 where
   pub c-size : length (new .c) ≡ length (old .c)
   pub a-size : length (new .a) ≡ length (old .a)

@@ -27,5 +27,5 @@ pub record Corner (n : ℕ) (s : Turn) : Type 0 where
   pub late : n * s .pass + s .point ≤ 4096
 
 -- That tick.
-abbrev pub tickOf : ℕ → Turn → ℕ
-tickOf n s = n * s .pass + s .point - (3 * n + 1)
+abbrev pub cornerTick : ℕ → Turn → ℕ
+cornerTick n s = n * s .pass + s .point - (3 * n + 1)

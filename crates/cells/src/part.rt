@@ -4,8 +4,9 @@ ghost use mathlib.Core.Bool.{cond, _&&_};
 ghost use Prim.Native.Nat.{ℕ, _+_, _-_, _≤_, _<_};
 ghost use lib.ListN.{length, getD};
 ghost use lib.Dec.{eqb, ltb};
-ghost use Rattle.cells.specs.Span.{Spanned, Worked, memories};
-ghost use Rattle.cells.specs.Cells.{begun, summed, partCell, turnCell, rowCell};
+ghost use Rattle.memory.specs.Walked.{Spanned};
+ghost use Rattle.cells.specs.Span.{Worked, memories};
+ghost use Rattle.cells.specs.Cells.{cStart, summed, partCell, turnCell, rowCell};
 use crate::turn::Turn;
 use crate::turn::live;
 use semiring::Algebra;
@@ -16,7 +17,7 @@ use semiring::sum;
 // c starts as none in the cell at point 0 of pass 0.
 fn begin(algebra: Algebra, p: usize, k: usize, from: usize, to: usize, c: &mut [u16])
     requires { ⌜ (to ≤ length (now c)) × (to ≤ k + 1) ⌝ }
-    ensures { λ _. ⌜ Spanned (λ j word. begun algebra p (k - j) word) (now (c .entry)) from to (now (c .exit)) ⌝ }
+    ensures { λ _. ⌜ Spanned (λ j word. cStart algebra p (k - j) word) (now (c .entry)) from to (now (c .exit)) ⌝ }
 {
     if p == 0 {
         if from <= k {

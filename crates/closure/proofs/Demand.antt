@@ -9,23 +9,36 @@ use Rattle.semiring.specs.declared.Algebra.{Algebra}
 use Rattle.semiring.specs.declared.Named.{Named}
 use Rattle.semiring.specs.Named.{namedOf}
 use Rattle.semiring.specs.declared.Named.the-variants.{Known, Unknown}
-use Rattle.semiring.proofs.Order.{not-bettered}
+use Rattle.semiring.proofs.Order.{AsGood, good-antisym, not-bettered}
 use Rattle.closure.specs.Elimination.{closure, eliminated}
 use Rattle.closure.specs.Tests.{eliminationTests, resultAfter}
-use Rattle.closure.specs.Demand.{Best, Demand2, Demand2-result}
+use Rattle.closure.specs.Ways.{Way}
+use Rattle.closure.specs.claims.Demand.{wordOver, Best, Demand2, Demand2-result}
 use Rattle.closure.proofs.Holds.{rowByRow-holds}
-use Rattle.closure.proofs.Ways.{unbettered}
-use Rattle.closure.proofs.Simple.{attained-simple}
+use Rattle.closure.proofs.Ways.{unbettered, attained}
+use Rattle.closure.proofs.Simple.{simple}
 use Rattle.closure.proofs.Links.{words-links}
 use Rattle.closure.proofs.Accepted.{Accepted, accepted, accepted-result}
 
--- Of any table of words, accepted or not.
-pub closure-best : (a : Algebra) (n : ℕ) (w : List ℕ) → ((p : ℕ) → Word a (getD w p 0)) → {i j : ℕ} → i < n → j < n
-    → Best a n w i j (closure a n w i j)
-unfolding closure
-closure-best a n w words hi hj =
-    let links = words-links a n w words in
-    record { attained = attained-simple links hi hj; unbettered = λ l way. not-bettered (unbettered links way) }
+-- Of any table of words, accepted or not: some way attains each entry, and no way betters it.
+module _ (a : Algebra) (n : ℕ) (w : List ℕ) (words : (p : ℕ) → Word a (getD w p 0)) {i j : ℕ} where
+  closure-attained : i < n → j < n → (l : List ℕ) × Way n i j l × (closure a n w i j ≡ wordOver a n w l)
+  unfolding closure
+  closure-attained hi hj = attained (words-links a n w words) _ (omega arith) hi hj
+
+  closure-unbettered : {l : List ℕ} → Way n i j l → AsGood a (closure a n w i j) (wordOver a n w l)
+  unfolding closure
+  closure-unbettered way = unbettered (words-links a n w words) way
+
+  -- The way that attains the entry has its repeats cut out: it gets no worse, and no better than the entry.
+  pub closure-best : i < n → j < n → Best a n w i j (closure a n w i j)
+  closure-best hi hj =
+      let (l, way, e) = closure-attained hi hj in
+      let (l′, way′, once, good) = simple (words-links a n w words) way in
+      record {
+        attained = (l′, way′, once, good-antisym (closure-unbettered way′) (rw e good));
+        unbettered = λ l way. not-bettered (closure-unbettered way);
+      }
 
 pub demand2 : Demand2
 demand2 a n w r e i j hi hj =

@@ -4,15 +4,10 @@ use native.Mathlib.Nat.{div-add-mod', div-lt-iff-lt-mul, mod-lt}
 use native.Mathlib.Omega.{arith}
 use mathlib.Core.Path.{_≡_, _∙_}
 use mathlib.Core.List.{List}
-use lib.ListN.{length, getD}
+use lib.ListN.{getD}
 use lib.Arith.{digits-lt, digits-div, digits-mod}
 use Rattle.memory.proofs.ListOf.{length-listOf, getD-listOf, is-listOf}
-use Rattle.closure.specs.Table.{Table, rowByRow}
-
--- The memory l holds the n by n table t.
-pub record Holds (n : ℕ) (t : Table) (l : List ℕ) : Type 0 where
-  pub size : length l ≡ n * n
-  pub word : (i j : ℕ) → i < n → j < n → getD l (i * n + j) 0 ≡ t i j
+use Rattle.closure.specs.Table.{Table, Holds, rowByRow}
 
 pub rowByRow-holds : (n : ℕ) (t : Table) → Holds n t (rowByRow n t)
 rowByRow-holds n t = record {

@@ -1,8 +1,9 @@
-pub mod Above
 pub mod Accepted
 pub mod Demand
+pub mod Equations
 pub mod Holds
 pub mod Links
 pub mod Passes
 pub mod Simple
 pub mod Ways
+pub mod Refusals

@@ -1,16 +1,14 @@
 -- A way's repeats can be cut out, and its word gets no worse.
-use Prim.Native.Nat.{ℕ, _<_}
-use native.Mathlib.Nat.{le-refl}
+use Prim.Native.Nat.{ℕ}
 use native.Mathlib.Decide.{ℕ-discrete}
 use mathlib.Core.Path.{_≡_, refl}
 use mathlib.Core.List.{List, [], _∷_}
 use Rattle.semiring.specs.declared.Algebra.{Algebra}
-use Rattle.semiring.proofs.Order.{AsGood, good-refl, good-trans, good-antisym, product-good, behind-good}
+use Rattle.semiring.proofs.Order.{AsGood, good-refl, good-trans, product-good, behind-good}
 use Rattle.closure.specs.Table.{Table}
-use Rattle.closure.specs.Elimination.{passes}
 use Rattle.closure.specs.Ways.{Way, stay, step, wayWord, Visits, now, later, NoRepeat, end, more}
 use Rattle.closure.proofs.Links.{Links}
-use Rattle.closure.proofs.Ways.{step-word, way-word, unbettered, attained}
+use Rattle.closure.proofs.Ways.{step-word, way-word}
 
 visits-none : {p : ℕ} → Visits p [] → ⊥
 visits-none = elim [ ]
@@ -59,11 +57,3 @@ module _ {a : Algebra} {t : Table} (links : Links a t) where
           rw (step-word a t i w, step-word a t i w′) (product-good (good-refl (links .word i k)) g),
         )
       ]
-
-  -- Some way without a repeated point attains each entry: it is as good as a way that does, and no way betters the entry.
-  pub attained-simple : {n i j : ℕ} → i < n → j < n
-      → (l : List ℕ) × Way n i j l × NoRepeat l × (passes a t n i j ≡ wayWord a t l)
-  attained-simple {n} hi hj =
-      let (l, w, e) = attained links n (le-refl n) hi hj in
-      let (l′, w′, r, g) = simple w in
-      (l′, w′, r, good-antisym (unbettered links w′) (rw e g))

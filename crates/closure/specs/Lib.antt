@@ -2,4 +2,4 @@ pub mod Table
 pub mod Elimination
 pub mod Ways
 pub mod Tests
-pub mod Demand
+pub mod claims

@@ -1,13 +1,51 @@
--- Rows and places of an n by n memory: the products that the bounds of the loops need.
+-- Rows of an n by n memory as the code counts them: what the places of the loops ask of their numbers.
 use Prim.Native.Nat.{ℕ, _+_, _*_, _<_, _≤_}
-use native.Mathlib.Nat.{mul-le-mul, mul-le-mul-right}
 use native.Mathlib.Omega.{arith}
+use mathlib.Core.List.{List}
+use lib.ListN.{length}
+use mir.Syntax.{w64}
+use mir.Val.{Fits}
+use Rattle.memory.proofs.Geometry.{row-fits, square-fits}
+use Rattle.elimination.specs.inner.Rows.{Square}
 
-pub row-fits : {i n : ℕ} → i < n → i * n + n ≤ n * n
-row-fits {i} {n} h = omega (arith, mul-le-mul-right n h)
+module _ {n : ℕ} {table : List ℕ} (square : Square n table) where
+  pub place-room : (i : ℕ) → i < n → Fits w64 (i * n)
+  place-room i h = omega (arith, row-fits h, square-fits (square .most))
 
-pub square-fits : {n : ℕ} → n ≤ 128 → n * n ≤ 16384
-square-fits h = mul-le-mul h h
+  -- the place in bytes
+  pub bytes-room : (i : ℕ) → i < n → Fits w64 (i * n * 2)
+  bytes-room i h = omega (arith, row-fits h, square-fits (square .most))
 
-pub two-rows-fit : (k : ℕ) {n : ℕ} → k + 1 < n → k * n + n + n ≤ n * n
-two-rows-fit k {n} h = omega (arith, row-fits h)
+  pub end-room : (i : ℕ) → i < n → Fits w64 (i * n + n)
+  end-room i h = omega (arith, row-fits h, square-fits (square .most))
+
+  pub row-inside : (i : ℕ) → i < n → i * n + n ≤ length table
+  row-inside i h = omega (arith, row-fits h, square .words)
+
+-- two rows, one after the other
+module _ {n : ℕ} {table : List ℕ} (square : Square n table) (k : ℕ) (below : k + 1 < n) where
+  two-rows : k * n + n + n ≤ length table
+  two-rows = omega (arith, row-fits below, square .words)
+
+  pub first-room : Fits w64 (k * n)
+  first-room = omega (arith, two-rows, square .words, square-fits (square .most))
+
+  pub first-bytes : Fits w64 (k * n * 2)
+  first-bytes = omega (arith, two-rows, square .words, square-fits (square .most))
+
+  pub second-room : Fits w64 (k * n + n)
+  second-room = omega (arith, two-rows, square .words, square-fits (square .most))
+
+  pub second-bytes : Fits w64 ((k * n + n) * 2)
+  second-bytes = omega (arith, two-rows, square .words, square-fits (square .most))
+
+  pub last-room : Fits w64 (k * n + n + n)
+  last-room = omega (arith, two-rows, square .words, square-fits (square .most))
+
+  pub first-inside : k * n + n ≤ length table
+  first-inside = omega (arith, two-rows)
+
+  pub second-inside : k * n + n + n ≤ length table
+  second-inside = two-rows
+
+  pub ruleset two-rows-fit = (first-room, first-bytes, second-room, second-bytes, last-room, first-inside, second-inside)

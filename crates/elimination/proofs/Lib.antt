@@ -1,4 +1,5 @@
 pub mod Diagonal
 pub mod Geometry
+pub mod Points
 pub mod Rows
 pub mod Through

@@ -1,39 +1,70 @@
 -- A loop over the rows of a table that lends each row to a walk.
-use Prim.Native.Nat.{ℕ, _+_, _*_, _/_, _%_, _<_, _≤_}
+use Prim.Native.Nat.{ℕ, _+_, _*_, _-_, _/_, _%_, _<_, _≤_, zero-le}
+use native.Mathlib.Nat.{zero-mul, add-sub-cancel-left}
 use native.Mathlib.Omega.{arith}
 use mathlib.Core.Path.{_≡_, sym, ap, _∙_}
 use mathlib.Core.List.{List}
 use lib.Arith.{digits-div, digits-mod}
 use lib.ListN.{length, getD, take, drop}
+use Rattle.semiring.specs.declared.Algebra.{Algebra}
 use Rattle.memory.specs.Lists.{replaced}
+use Rattle.memory.specs.Walked.{Walked}
+use Rattle.memory.proofs.Geometry.{row-fits}
 use Rattle.memory.proofs.Part.{part-length, part-word}
-use Rattle.memory.proofs.Walk.{Walked, walked-part, walked-to, walked-drop, walked-all}
+use Rattle.memory.proofs.Walk.{walked-none, walked-part, walked-to, walked-drop, walked-all}
 use Rattle.closure.specs.Table.{rowByRow}
-use Rattle.elimination.specs.Rows.{rowOf, rowwise}
-use Rattle.elimination.proofs.Geometry.{row-fits}
+use Rattle.elimination.specs.inner.Rows.{Square, rowOf, rowwise}
+use Rattle.elimination.specs.inner.Relax.{relaxed, relaxedTwice}
+use Rattle.elimination.specs.inner.Passes.{RowsRelaxed, RowsRelaxedTwice}
 
 -- What each word of the memory is to become.
-abbrev pub due : ℕ → (List ℕ → ℕ → ℕ → ℕ) → List ℕ → ℕ → ℕ → ℕ
+abbrev due : ℕ → (List ℕ → ℕ → ℕ → ℕ) → List ℕ → ℕ → ℕ → ℕ
 due n g old p word = rowwise n g old (p / n) (p % n)
 
-module _ (n : ℕ) (g : List ℕ → ℕ → ℕ → ℕ) (old : List ℕ) (size : length old ≡ n * n) where
-  -- one row more; w is n in the words of the code
-  pub row-done : {i : ℕ} {l : List ℕ} (w : ℕ) (new : List ℕ) → w ≡ n → i < n → Walked (due n g old) old (i * n) l
-      → (let part : List ℕ = take w (drop (i * n) l) in Walked (g part) part (length part) new)
-      → Walked (due n g old) old ((i + 1) * n) (replaced (i * n) w new l)
-  row-done {i} {l} w new same h c done =
-      let fits : i * n + w ≤ length old = omega (arith, row-fits h) in
-      let part : take w (drop (i * n) l) ≡ rowOf n old i = rw (same, walked-drop c) in
-      let long : length (take w (drop (i * n) l)) ≡ w = part-length (i * n) w l (omega (arith, c .size)) in
-      walked-to
-      (walked-part w new c fits (done .size ∙ long)
-      (λ j k.
-      let k′ : j < n = omega arith in
-      done .done j (omega (arith, long))
-      ∙ ap (λ (row : List ℕ). g row j (getD row j 0)) part
-      ∙ ap (g (rowOf n old i) j) (part-word (i * n) n old (omega (arith, row-fits h)) j k′)
-      ∙ rw (digits-div i k′, digits-mod i k′)))
-      (omega arith)
+-- Rows 0 to i - 1 of the n by n memory `old` were walked by g, and the memory is l.
+pub record RowsWalked (n : ℕ) (g : List ℕ → ℕ → ℕ → ℕ) (old : List ℕ) (i : ℕ) (l : List ℕ) : Type 0 where
+  pub count : i ≤ n
+  pub walked : Walked (due n g old) old (i * n) l
 
-  pub rows-done : {l : List ℕ} → Walked (due n g old) old (n * n) l → l ≡ rowByRow n (rowwise n g old)
-  rows-done c = rw size at (walked-all c (sym size))
+module _ {n : ℕ} {g : List ℕ → ℕ → ℕ → ℕ} {old : List ℕ} where
+  pub begins : RowsWalked n g old 0 old
+  begins = record { count = omega arith; walked = rw (zero-mul n) walked-none }
+
+  module _ (square : Square n old) where
+    -- the row that is lent, with its end and its width as the code computes them
+    pub row-inside : {i : ℕ} {l : List ℕ} → RowsWalked n g old i l → i < n → i * n + n ≤ length l
+    row-inside done h = omega (arith, row-fits h, square .words, done .walked .size)
+
+    pub goes-on : {i : ℕ} {l new : List ℕ} → RowsWalked n g old i l → i < n
+        → (let part : List ℕ = take (i * n + n - i * n) (drop (i * n) l) in Walked (g part) part (length part) new)
+        → RowsWalked n g old (i + 1) (replaced (i * n) (i * n + n - i * n) new l)
+    goes-on {i} {l} {new} c h done =
+        let w : ℕ = i * n + n - i * n in
+        let same : w ≡ n = add-sub-cancel-left (i * n) n in
+        let fits : i * n + w ≤ length old = omega (arith, row-fits h, square .words) in
+        let part : take w (drop (i * n) l) ≡ rowOf n old i = rw (same, walked-drop (c .walked)) in
+        let long : length (take w (drop (i * n) l)) ≡ w = part-length (i * n) w l (omega (arith, c .walked .size)) in
+        record {
+          count = omega arith;
+          walked = walked-to
+              (walked-part w new (c .walked) fits (done .size ∙ long)
+              (λ j k.
+              let k′ : j < n = omega arith in
+              done .inside j zero-le (omega (arith, long))
+              ∙ ap (λ (row : List ℕ). g row j (getD row j 0)) part
+              ∙ ap (g (rowOf n old i) j) (part-word (i * n) n old (omega (arith, row-fits h, square .words)) j k′)
+              ∙ rw (digits-div i k′, digits-mod i k′)))
+              (omega arith);
+        }
+
+    rows-done : {i : ℕ} {l : List ℕ} → RowsWalked n g old i l → n ≤ i → l ≡ rowByRow n (rowwise n g old)
+    rows-done {i} c h =
+        let last : i ≡ n = omega (arith, c .count) in
+        rw (square .words) at (walked-all (rw last at (c .walked)) (sym (square .words)))
+
+module _ {a : Algebra} {n k i : ℕ} {via old l : List ℕ} (square : Square n old) where
+  pub ends : RowsWalked n (relaxed a k via) old i l → n ≤ i → RowsRelaxed a n k via old l
+  ends c h = record { words = rows-done square c h }
+
+  pub ends-two : {next : List ℕ} → RowsWalked n (relaxedTwice a k via next) old i l → n ≤ i → RowsRelaxedTwice a n k via next old l
+  ends-two c h = record { words = rows-done square c h }

@@ -1,2 +1,1 @@
-pub mod Relax
-pub mod Rows
+pub mod inner

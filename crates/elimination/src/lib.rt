@@ -3,8 +3,6 @@
 mod layout;
 mod passes;
 mod relax;
-mod words;
 
 pub use layout::lay_out;
 pub use passes::close;
-pub use words::has_word_above;

@@ -1,12 +1,8 @@
 // A table closed in place, two points at a time.
-ghost use mathlib.Core.Path.{_≡_};
-ghost use Prim.Native.Nat.{_+_, _*_, _≤_, _<_};
+ghost use Prim.Native.Nat.{_+_, _≤_, _<_};
 ghost use lib.ListN.{length};
-ghost use Rattle.closure.specs.Table.{Table, rowByRow};
-ghost use Rattle.closure.specs.Elimination.{through, passes};
-ghost use Rattle.closure.proofs.Holds.{Holds};
-ghost use Rattle.elimination.specs.Relax.{relaxed, relaxedTwice};
-ghost use Rattle.elimination.specs.Rows.{Sized, rowwise};
+ghost use Rattle.elimination.specs.inner.Rows.{Square};
+ghost use Rattle.elimination.specs.inner.Passes.{RowsRelaxed, RowsRelaxedTwice, Passed, PassedTwice, PassedAll};
 use crate::relax::relax;
 use crate::relax::relax_two;
 use memory::copy;
@@ -14,8 +10,8 @@ use semiring::Algebra;
 
 // Every row through point k, whose row was `via`.
 fn rows(a: Algebra, n: usize, k: usize, via: &[u16], table: &mut [u16])
-    requires { ⌜ Sized n (now table) × (k < n) × (n ≤ length (now via)) ⌝ }
-    ensures { λ _. ⌜ now (table .exit) ≡ rowByRow n (rowwise n (relaxed a k (now (via .entry))) (now (table .entry))) ⌝ }
+    requires { ⌜ Square n (now table) × (k < n) × (n ≤ length (now via)) ⌝ }
+    ensures { λ _. ⌜ RowsRelaxed a n k (now (via .entry)) (now (table .entry)) (now (table .exit)) ⌝ }
 {
     let mut i = 0;
     while i < n {
@@ -28,9 +24,8 @@ fn rows(a: Algebra, n: usize, k: usize, via: &[u16], table: &mut [u16])
 
 // Every row through points k and k + 1.
 fn rows_two(a: Algebra, n: usize, k: usize, via: &[u16], next: &[u16], table: &mut [u16])
-    requires { ⌜ Sized n (now table) × (k + 1 < n) × (n ≤ length (now via)) × (n ≤ length (now next)) ⌝ }
-    ensures { λ _. ⌜ now (table .exit)
-        ≡ rowByRow n (rowwise n (relaxedTwice a k (now (via .entry)) (now (next .entry))) (now (table .entry))) ⌝ }
+    requires { ⌜ Square n (now table) × (k + 1 < n) × (n ≤ length (now via)) × (n ≤ length (now next)) ⌝ }
+    ensures { λ _. ⌜ RowsRelaxedTwice a n k (now (via .entry)) (now (next .entry)) (now (table .entry)) (now (table .exit)) ⌝ }
 {
     let mut i = 0;
     while i < n {
@@ -43,8 +38,8 @@ fn rows_two(a: Algebra, n: usize, k: usize, via: &[u16], next: &[u16], table: &m
 
 // The pass of point k. `via` has room for a row.
 fn pass(a: Algebra, n: usize, k: usize, via: &mut [u16], table: &mut [u16])
-    requires { ⌜ Sized n (now table) × (k < n) × (n ≤ length (now via)) ⌝ }
-    ensures { λ _. ⌜ ((t : Table) → Holds n t (now (table .entry)) → Holds n (through a k t) (now (table .exit))) ⌝ }
+    requires { ⌜ Square n (now table) × (k < n) × (n ≤ length (now via)) ⌝ }
+    ensures { λ _. ⌜ Passed a n k (now (table .entry)) (now (table .exit)) ⌝ }
 {
     let at = k * n;
     let end = at + n;
@@ -54,8 +49,8 @@ fn pass(a: Algebra, n: usize, k: usize, via: &mut [u16], table: &mut [u16])
 
 // The passes of points k and k + 1. `via` and `next` have room for a row each.
 fn pass_two(a: Algebra, n: usize, k: usize, via: &mut [u16], next: &mut [u16], table: &mut [u16])
-    requires { ⌜ Sized n (now table) × (k + 1 < n) × (n ≤ length (now via)) × (n ≤ length (now next)) ⌝ }
-    ensures { λ _. ⌜ ((t : Table) → Holds n t (now (table .entry)) → Holds n (through a (k + 1) (through a k t)) (now (table .exit))) ⌝ }
+    requires { ⌜ Square n (now table) × (k + 1 < n) × (n ≤ length (now via)) × (n ≤ length (now next)) ⌝ }
+    ensures { λ _. ⌜ PassedTwice a n k (now (table .entry)) (now (table .exit)) ⌝ }
 {
     let at = k * n;
     let middle = at + n;
@@ -68,8 +63,8 @@ fn pass_two(a: Algebra, n: usize, k: usize, via: &mut [u16], next: &mut [u16], t
 
 // All passes.
 pub fn close(a: Algebra, n: usize, table: &mut [u16])
-    requires { ⌜ Sized n (now table) ⌝ }
-    ensures { λ _. ⌜ ((t : Table) → Holds n t (now (table .entry)) → now (table .exit) ≡ rowByRow n (passes a t n)) ⌝ }
+    requires { ⌜ Square n (now table) ⌝ }
+    ensures { λ _. ⌜ PassedAll a n (now (table .entry)) (now (table .exit)) ⌝ }
 {
     let mut via = [0u16; 128];
     let mut next = [0u16; 128];

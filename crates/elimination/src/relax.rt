@@ -1,8 +1,8 @@
 // One row of a table through one point, or through two: the loops that run n³ times.
 ghost use Prim.Native.Nat.{_+_, _<_, _≤_};
 ghost use lib.ListN.{length};
-ghost use Rattle.elimination.specs.Relax.{relaxed, relaxedTwice};
-ghost use Rattle.memory.proofs.Walk.{Walked};
+ghost use Rattle.elimination.specs.inner.Relax.{relaxed, relaxedTwice};
+ghost use Rattle.memory.specs.Walked.{Walked};
 use semiring::Algebra;
 use semiring::product;
 use semiring::sum;

@@ -1,4 +1,7 @@
-pub mod Cuts
-pub mod Digits
+pub mod Heads
 pub mod Lines
-pub mod Runs
+pub mod Padded
+pub mod Scans
+pub mod Tallies
+pub mod Words
+pub mod Limits

@@ -1,34 +1,74 @@
 -- The form of a line, from the parts that are found one after the other.
 use Prim.Native.Nat.{ℕ, _<_, _≤_}
-use native.Mathlib.Omega.{arith}
-use mathlib.Core.Path.{_≡_, refl}
-use mathlib.Core.List.{List, [], _∷_}
-use mathlib.Core.Bool.{cond}
-use lib.ListN.{length}
-use Rattle.job_form.specs.declared.tokens.Token.the-variants.{Dash, Other}
+use mathlib.Core.Path.{_≡_, sym, _∙_}
+use mathlib.Core.List.{List}
+use Rattle.text.specs.Pieces.{parts}
+use Rattle.text.specs.inner.Scan.{between, partsFrom, Found}
+use Rattle.text.proofs.Cuts.{parts-some, parts-none}
+use Rattle.job_form.specs.declared.tokens.Token.{Token}
 use Rattle.job_form.specs.declared.forms.Head.{Head}
-use Rattle.memory.specs.Ascii.{ascii}
-use Rattle.job_form.specs.Pieces.{same, parts}
-use Rattle.job_form.specs.Tokens.{digits, numeral, name, tokenOf}
-use Rattle.job_form.specs.Forms.{skipped, headOf, formFor, formOf}
-use Rattle.job_form.specs.Scan.{between, partsFrom, Found}
-use Rattle.job_form.proofs.Cuts.{parts-some, parts-none}
+use Rattle.job_form.specs.declared.forms.Line.{Line}
+use Rattle.job_form.specs.declared.forms.Line.the-variants as said
+use Rattle.job_form.specs.Tokens.{tokenOf}
+use Rattle.job_form.specs.Forms.{headOf, listForm, jobForm, rowForm, alone, closing, formFor, formOf}
+use Rattle.job_form.specs.inner.Said.{formIn, Says}
+use Rattle.job_form.specs.inner.Worded.{Worded}
 
-pub token-none : (p : List ℕ) → length p ≡ 0 → Other ≡ tokenOf p
-unfolding tokenOf
-token-none [] h = refl
-token-none (b ∷ p) h = absurd (omega arith)
+module _ {from : ℕ} {line : List ℕ} {a b : ℕ} (f : Found from line a b) where
+  -- no part
+  pub list-none : b ≤ a → Says line said.Unknown (listForm (partsFrom from line))
+  list-none h = record { is = rw (parts-none f h) }
 
-pub token-some : (p : List ℕ) → (length p ≡ 0 → ⊥) → tokenOf p ≡ cond (digits p) (numeral p) (cond (same p (ascii "-")) Dash (name p))
-unfolding tokenOf
-token-some [] h = absurd (h refl)
-token-some (b ∷ p) h = refl
+  pub job-none : b ≤ a → Says line said.Unknown (jobForm (partsFrom from line))
+  job-none h = record { is = rw (parts-none f h) }
 
+  pub row-none : b ≤ a → Says line said.Unknown (rowForm (partsFrom from line))
+  row-none h = record { is = rw (parts-none f h) }
+
+  pub alone-none : (whole : Line) → b ≤ a → Says line whole (alone (formIn line whole) (partsFrom from line))
+  alone-none whole h = record { is = rw (parts-none f h) }
+
+  -- one part at least
+  module _ (some : a < b) where
+    pub row-some : Says line (said.Row from) (rowForm (partsFrom from line))
+    row-some = record { is = rw (parts-some f some) }
+
+    pub alone-some : (whole : Line) → Says line said.Unknown (alone (formIn line whole) (partsFrom from line))
+    alone-some whole = record { is = rw (parts-some f some) }
+
+    module _ {c d : ℕ} (g : Found b line c d) where
+      -- one part, and two at least
+      pub list-one : d ≤ c → Says line said.Unknown (listForm (partsFrom from line))
+      list-one h = record { is = rw (parts-some f some, parts-none g h) }
+
+      pub job-one : {t : Token} → d ≤ c → t ≡ tokenOf (between a b line) → Says line (said.Job t) (jobForm (partsFrom from line))
+      job-one h e = record { is = rw (parts-some f some, parts-none g h, e) }
+
+      pub job-more : c < d → Says line said.Unknown (jobForm (partsFrom from line))
+      job-more h = record { is = rw (parts-some f some, parts-some g h) }
+
+      pub list-two : {x y : ℕ} {t u : Token} → c < d → Found d line x y → y ≤ x → t ≡ tokenOf (between a b line) → u ≡ tokenOf (between c d line)
+          → Says line (said.List t u) (listForm (partsFrom from line))
+      list-two h i k e e′ = record { is = rw (parts-some f some, parts-some g h, parts-none i k, e, e′) }
+
+      pub list-more : {x y : ℕ} → c < d → Found d line x y → x < y → Says line said.Unknown (listForm (partsFrom from line))
+      list-more h i k = record { is = rw (parts-some f some, parts-some g h, parts-some i k) }
+
+-- the word of a row: the last, or one before it
+module _ {line : List ℕ} {start end start′ end′ : ℕ} {t : Token} (f : Found end line start′ end′) where
+  pub word-before : start′ < end′ → t ≡ tokenOf (between start end line) → Worded start end line t start′ end′
+  word-before h e = record { word = rw (parts-some f h) e; next = f }
+
+  pub word-last : end′ ≤ start′ → t ≡ closing (between start end line) → Worded start end line t start′ end′
+  word-last h e = record { word = rw (parts-none f h) e; next = f }
+
+-- the whole line
 module _ {line : List ℕ} {start end : ℕ} (f : Found 0 line start end) where
-  pub form-none : end ≤ start → skipped ≡ formOf (parts line)
+  pub line-none : end ≤ start → Says line said.Skipped (formOf (parts line))
   unfolding parts formOf
-  form-none h = rw (parts-none f h)
+  line-none h = record { is = rw (parts-none f h) }
 
-  pub form-some : (h : Head) → start < end → headOf (between start end line) ≡ h → formOf (parts line) ≡ formFor h (partsFrom end line)
+  pub line-some : {r : Line} (h k : Head) → start < end → h ≡ headOf (between start end line) → h ≡ k
+      → Says line r (formFor k (partsFrom end line)) → Says line r (formOf (parts line))
   unfolding parts formOf
-  form-some h k e = rw (parts-some f k, e)
+  line-some h k some e is says = record { is = rw (parts-some f some, sym e ∙ is) (says .is) }

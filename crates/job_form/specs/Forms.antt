@@ -2,15 +2,16 @@
 use Prim.Native.Nat.{ℕ, _-_}
 use Prim.Native.Char.{code}
 use mathlib.Core.List.{List, [], _∷_}
-use mathlib.Core.Bool.{cond}
+use mathlib.Core.Bool.{Bool, cond}
 use lib.ListN.{length, getD, take}
 use lib.Dec.{eqb}
+use Rattle.refusals.specs.Tests.{first}
 use Rattle.job_form.specs.declared.tokens.Token.{Token}
 use Rattle.job_form.specs.declared.tokens.Token.the-variants.{Other}
 use Rattle.job_form.specs.declared.forms.Head.{Head}
 use Rattle.job_form.specs.declared.forms.Head.the-variants as head
-use Rattle.memory.specs.Ascii.{ascii}
-use Rattle.job_form.specs.Pieces.{same}
+use Rattle.text.specs.Ascii.{ascii}
+use Rattle.text.specs.Pieces.{same}
 use Rattle.job_form.specs.Tokens.{tokenOf}
 
 pub data Form : Type 0 where
@@ -55,16 +56,22 @@ abbrev pub alone : Form → List (List ℕ) → Form
 alone f [] = f
 alone f (p ∷ ps) = unknown
 
--- What the first part announces: a line "whose first other byte is `;`", the beginning of a form, a row of no words, a lone bracket.
+-- What the first part announces: the beginning of a form, a row of no words, a lone bracket.
+abbrev pub openingTests : List ℕ → List (Bool × Head)
+openingTests p =
+    (same p (ascii "(list"), head.List)
+    ∷ (same p (ascii "(job"), head.Job)
+    ∷ (same p (ascii "(row"), head.Row)
+    ∷ (same p (ascii "(row)"), head.EmptyRow)
+    ∷ (same p (ascii ")"), head.Close)
+    ∷ []
+
+unfoldable pub opening : List ℕ → Head
+opening p = first head.Unknown (openingTests p)
+
+-- A line "whose first other byte is `;`", or what a form begins with.
 unfoldable pub headOf : List ℕ → Head
-headOf p =
-    cond (eqb (getD p 0 0) (code ";")) head.Comment
-    (cond (same p (ascii "(list")) head.List
-    (cond (same p (ascii "(job")) head.Job
-    (cond (same p (ascii "(row")) head.Row
-    (cond (same p (ascii "(row)")) head.EmptyRow
-    (cond (same p (ascii ")")) head.Close
-    head.Unknown)))))
+headOf p = cond (eqb (getD p 0 0) (code ";")) head.Comment (opening p)
 
 abbrev pub formFor : Head → List (List ℕ) → Form
 formFor head.Comment ps = skipped

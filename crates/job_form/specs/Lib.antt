@@ -1,5 +1,5 @@
-pub mod Pieces
 pub mod Tokens
 pub mod Forms
-pub mod Scan
-pub mod Said
+pub mod Words
+pub mod Buffer
+pub mod inner

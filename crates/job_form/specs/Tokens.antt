@@ -1,38 +1,41 @@
 -- Document 01, "Job text and bench program": what a part of a line stands for.
 use Prim.Native.Nat.{ℕ}
 use mathlib.Core.List.{List, [], _∷_}
-use mathlib.Core.Bool.{Bool, true, false, cond, not, _&&_, _||_}
-use lib.ListN.{length}
-use lib.Dec.{ltb}
+use mathlib.Core.Bool.{Bool, true, false, cond}
 use Rattle.semiring.specs.declared.Algebra.{Algebra}
 use Rattle.semiring.specs.declared.Algebra.the-variants.{Reach, Distance, Steepest}
-use Rattle.closure.specs.Tests.{outside}
+use Rattle.refusals.specs.Tests.{first}
 use Rattle.job_form.specs.declared.tokens.Token.{Token}
 use Rattle.job_form.specs.declared.tokens.Token.the-variants.{Number, Over, Dash, Name, Other}
-use Rattle.memory.specs.Ascii.{ascii, decimal}
-use Rattle.job_form.specs.Pieces.{same}
-
--- "a numeral is a run of digits": bytes 48 to 57.
-unfoldable pub digits : List ℕ → Bool
-digits [] = true
-digits (b ∷ p) = not (outside 48 57 b) && digits p
+use Rattle.text.specs.Ascii.{ascii}
+use Rattle.text.specs.Pieces.{same}
+use Rattle.text.specs.Numeral.{digits, numeralOf}
+use Rattle.text.specs.declared.numeral.Numeral.{Numeral}
+use Rattle.text.specs.declared.numeral.Numeral.the-variants as read
 
 -- "Numbers have 1 to 5 decimal digits, leading zeros allowed"; "15 a numeral over 5 digits or above 65535".
-abbrev pub numeral : List ℕ → Token
-numeral p = cond (ltb 5 (length p) || ltb 65535 (decimal 0 p)) Over (Number (decimal 0 p))
+abbrev pub numberIn : Numeral → Token
+numberIn (read.Number n) = Number n
+numberIn read.Over = Over
+
+abbrev pub numeralToken : List ℕ → Token
+numeralToken p = numberIn (numeralOf 5 65535 p)
 
 -- "A a name from the table".
-abbrev pub name : List ℕ → Token
-name p =
-    cond (same p (ascii "reach")) (Name Reach)
-    (cond (same p (ascii "distance")) (Name Distance)
-    (cond (same p (ascii "steepest")) (Name Steepest)
-    Other))
+abbrev pub nameTests : List ℕ → List (Bool × Token)
+nameTests p =
+    (same p (ascii "reach"), Name Reach)
+    ∷ (same p (ascii "distance"), Name Distance)
+    ∷ (same p (ascii "steepest"), Name Steepest)
+    ∷ []
+
+unfoldable pub name : List ℕ → Token
+name p = first Other (nameTests p)
 
 -- "`-` is none".
 unfoldable pub tokenOf : List ℕ → Token
 tokenOf [] = Other
-tokenOf (b ∷ p) = cond (digits (b ∷ p)) (numeral (b ∷ p)) (cond (same (b ∷ p) (ascii "-")) Dash (name (b ∷ p)))
+tokenOf (b ∷ p) = cond (digits (b ∷ p)) (numeralToken (b ∷ p)) (cond (same (b ∷ p) (ascii "-")) Dash (name (b ∷ p)))
 
 module _ {A : Type 0} where
   abbrev pub byToken : (ℕ → A) → A → A → (Algebra → A) → A → Token → A
@@ -54,5 +57,5 @@ isName = byToken (λ n. false) false false (λ a. true) false
 abbrev pub valueOf : Token → ℕ
 valueOf = byToken (λ n. n) 0 0 (λ a. 0) 0
 
-abbrev pub algebraOf : Token → Algebra
-algebraOf = byToken (λ n. Reach) Reach Reach (λ a. a) Reach
+abbrev pub algebraNamed : Token → Algebra
+algebraNamed = byToken (λ n. Reach) Reach Reach (λ a. a) Reach

@@ -2,15 +2,16 @@
 ghost use mathlib.Core.Path.{_≡_};
 ghost use Prim.Native.Nat.{_≤_, _<_};
 ghost use lib.ListN.{length};
-ghost use Rattle.job_form.specs.Pieces.{parts};
-ghost use Rattle.job_form.specs.Forms.{headOf, closing, listForm, jobForm, rowForm, alone, formOf};
-ghost use Rattle.job_form.specs.Scan.{partsFrom, Worded};
-ghost use Rattle.job_form.specs.Said.{formIn};
-use crate::bytes::equal;
-use crate::parts::Part;
-use crate::parts::next_part;
+ghost use Rattle.text.specs.Pieces.{parts};
+ghost use Rattle.text.specs.inner.Scan.{partsFrom};
+ghost use Rattle.job_form.specs.Forms.{opening as openingOf, headOf, closing, listForm, jobForm, rowForm, alone, formOf};
+ghost use Rattle.job_form.specs.inner.Said.{formIn, Says};
+ghost use Rattle.job_form.specs.inner.Worded.{Worded};
 use crate::tokens::Token;
 use crate::tokens::token_of;
+use text::Part;
+use text::equal;
+use text::next_part;
 
 // What the first part of a line announces.
 pub enum Head {
@@ -47,6 +48,12 @@ fn head_of(part: &[u8]) -> Head
     if part[0] == b';' {
         return Head::Comment;
     }
+    opening(part)
+}
+
+fn opening(part: &[u8]) -> Head
+    ensures { λ r. ⌜ r ≡ openingOf (now (part .entry)) ⌝ }
+{
     if equal(part, b"(list") {
         return Head::List;
     }
@@ -66,7 +73,7 @@ fn head_of(part: &[u8]) -> Head
 }
 
 fn list_line(line: &[u8], from: usize) -> Line
-    ensures { λ r. ⌜ formIn (now (line .entry)) r ≡ listForm (partsFrom from (now (line .entry))) ⌝ }
+    ensures { λ r. ⌜ Says (now (line .entry)) r (listForm (partsFrom from (now (line .entry)))) ⌝ }
 {
     let order = next_part(line, from);
     let a = order.start;
@@ -91,7 +98,7 @@ fn list_line(line: &[u8], from: usize) -> Line
 }
 
 fn job_line(line: &[u8], from: usize) -> Line
-    ensures { λ r. ⌜ formIn (now (line .entry)) r ≡ jobForm (partsFrom from (now (line .entry))) ⌝ }
+    ensures { λ r. ⌜ Says (now (line .entry)) r (jobForm (partsFrom from (now (line .entry)))) ⌝ }
 {
     let size = next_part(line, from);
     let a = size.start;
@@ -109,7 +116,7 @@ fn job_line(line: &[u8], from: usize) -> Line
 }
 
 fn row_line(line: &[u8], from: usize) -> Line
-    ensures { λ r. ⌜ formIn (now (line .entry)) r ≡ rowForm (partsFrom from (now (line .entry))) ⌝ }
+    ensures { λ r. ⌜ Says (now (line .entry)) r (rowForm (partsFrom from (now (line .entry)))) ⌝ }
 {
     let first = next_part(line, from);
     if first.end <= first.start {
@@ -120,7 +127,7 @@ fn row_line(line: &[u8], from: usize) -> Line
 
 // A line of one part.
 fn lone_line(whole: Line, line: &[u8], from: usize) -> Line
-    ensures { λ r. ⌜ formIn (now (line .entry)) r ≡ alone (formIn (now (line .entry)) whole) (partsFrom from (now (line .entry))) ⌝ }
+    ensures { λ r. ⌜ Says (now (line .entry)) r (alone (formIn (now (line .entry)) whole) (partsFrom from (now (line .entry)))) ⌝ }
 {
     let more = next_part(line, from);
     if more.start < more.end {
@@ -130,7 +137,7 @@ fn lone_line(whole: Line, line: &[u8], from: usize) -> Line
 }
 
 pub fn read_line(line: &[u8]) -> Line
-    ensures { λ r. ⌜ formIn (now (line .entry)) r ≡ formOf (parts (now (line .entry))) ⌝ }
+    ensures { λ r. ⌜ Says (now (line .entry)) r (formOf (parts (now (line .entry)))) ⌝ }
 {
     let first = next_part(line, 0);
     let start = first.start;

@@ -1,14 +1,13 @@
-// What a line of a job text says: its parts, what each part stands for, and the form that they make.
-mod bytes;
+// What a line of a job text says: what each of its parts stands for, the form that they make, and the words of a row.
+mod buffers;
 mod forms;
-mod parts;
+mod rows;
 mod tokens;
 
-pub use bytes::until;
+pub use buffers::store;
 pub use forms::Line;
-pub use forms::Word;
 pub use forms::read_line;
-pub use forms::word_at;
-pub use parts::Part;
-pub use parts::next_part;
+pub use rows::Row;
+pub use rows::Tally;
+pub use rows::read_row;
 pub use tokens::Token;

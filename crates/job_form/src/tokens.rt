@@ -1,9 +1,11 @@
 // What a part of a line stands for.
 ghost use mathlib.Core.Path.{_≡_};
-ghost use Prim.Native.Nat.{_-_, _≤_};
-ghost use Rattle.job_form.specs.Tokens.{digits, numeral, name, tokenOf, isNumeral, isOver, isName, valueOf, algebraOf};
-use crate::bytes::equal;
+ghost use Rattle.job_form.specs.Tokens.{numeralToken, name, tokenOf, isNumeral, isOver, isName, valueOf, algebraNamed};
 use semiring::Algebra;
+use text::Numeral;
+use text::all_digits;
+use text::equal;
+use text::read_numeral;
 
 pub enum Token {
     // A numeral that is a 16-bit number.
@@ -69,7 +71,7 @@ impl Token {
 
     // The algebra of a name, reach for anything else.
     pub fn algebra(self) -> Algebra
-        ensures { λ r. ⌜ r ≡ algebraOf self ⌝ }
+        ensures { λ r. ⌜ r ≡ algebraNamed self ⌝ }
     {
         match self {
             Token::Number(_) => Algebra::Reach,
@@ -81,45 +83,14 @@ impl Token {
     }
 }
 
-fn all_digits(part: &[u8]) -> bool
-    ensures { λ r. ⌜ r ≡ digits (now (part .entry)) ⌝ }
-{
-    let mut at = 0;
-    while at < part.len() {
-        if part[at] < b'0' {
-            return false;
-        }
-        if b'9' < part[at] {
-            return false;
-        }
-        at += 1;
-    }
-    true
-}
-
-fn digit(byte: u8) -> u32
-    ensures { λ r. ⌜ (r ≡ byte - 48) × (r ≤ 255) ⌝ }
-{
-    if byte < b'0' { 0 } else { (byte - b'0') as u32 }
-}
-
-// The number that decimal digits stand for. It is held above 65535 as soon as it is there, so no sum wraps.
 fn number(part: &[u8]) -> Token
-    ensures { λ r. ⌜ r ≡ numeral (now (part .entry)) ⌝ }
+    ensures { λ r. ⌜ r ≡ numeralToken (now (part .entry)) ⌝ }
 {
-    if 5 < part.len() {
-        return Token::Over;
+    let read = read_numeral(part, 5, 65535);
+    match read {
+        Numeral::Number(n) => Token::Number(n as u16),
+        Numeral::Over => Token::Over,
     }
-    let mut value: u32 = 0;
-    let mut at = 0;
-    while at < part.len() {
-        value = 10 * value + digit(part[at]);
-        if 65535 < value {
-            return Token::Over;
-        }
-        at += 1;
-    }
-    Token::Number(value as u16)
 }
 
 fn algebra_name(part: &[u8]) -> Token
@@ -140,7 +111,7 @@ fn algebra_name(part: &[u8]) -> Token
 pub fn token_of(part: &[u8]) -> Token
     ensures { λ r. ⌜ r ≡ tokenOf (now (part .entry)) ⌝ }
 {
-    if part.len() == 0 {
+    if part.len() < 1 {
         return Token::Other;
     }
     if all_digits(part) {

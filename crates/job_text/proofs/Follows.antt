@@ -7,16 +7,20 @@ use native.Mathlib.Omega.{arith}
 use mathlib.Core.Path.{_≡_, refl, sym, ap, subst, _∙_}
 use mathlib.Core.List.{List, [], _∷_, map}
 use lib.ListN.{length, drop, drop-of-length-le}
-use Rattle.job_form.specs.Pieces.{bytesOf, cut, lines, parts}
+use Rattle.text.specs.Pieces.{bytesOf, cut, lines, parts}
 use Rattle.job_form.specs.Forms.{formOf}
-use Rattle.job_form.specs.Scan.{between, Until}
+use Rattle.text.specs.inner.Scan.{between, Until}
 use Rattle.job_text.specs.declared.state.Due.{Due}
 use Rattle.job_text.specs.declared.state.Due.the-variants as due
 use Rattle.job_text.specs.declared.state.State.{State}
+use Rattle.job_text.specs.declared.state.Next.{Next}
 use Rattle.job_text.specs.declared.state.Next.the-variants.{On, Stop}
+use Rattle.job_text.specs.declared.answer.Read.{Read}
+use Rattle.job_text.specs.declared.answer.Read.the-variants.{Refused}
 use Rattle.job_text.specs.Steps.{Progress, start, Step, go, stop, step}
-use Rattle.job_text.specs.Reading.{Reading, refused, ended, follow, padded, Answer, turned, answerOf}
-use Rattle.job_text.specs.States.{stateOf, Kept, Went, endedBy, Filled}
+use Rattle.job_text.specs.Reading.{Reading, refused, refusal, ended, follow, answerOf, answered}
+use Rattle.job_text.specs.inner.States.{stateOf, Cleared, Kept, Went, endedBy, Ended, Filled, Followed}
+use Rattle.job_text.specs.inner.Stepped.{Advanced}
 
 -- the lines from a place on
 abbrev linesFrom : ℕ → List ℕ → List (List ℕ)
@@ -36,12 +40,12 @@ whole text = follow 0 (lines text) (go start)
 start-state : (n : ℕ) → stateOf 0 start ≡ stateOf n start
 start-state n = λ i. record { due = due.List; order = 0; algebra = start .algebra; jobs = 0; size = 0; left = 0; at = sym (zero-min n) i }
 
-pub reached-start : (text sizes weights : List ℕ) (s : State) → s ≡ stateOf 0 start → sizes ≡ padded (length sizes) [] → weights ≡ padded (length weights) []
+pub reached-start : (text sizes weights : List ℕ) (s : State) → s ≡ stateOf 0 start → Cleared (length sizes) sizes → Cleared (length weights) weights
     → Reached text sizes weights sizes weights s 0 0
 unfolding lines
 reached-start text sizes weights s e h k = record {
   done = start;
-  kept = record { state = e ∙ start-state (length weights); sizes-hold = h; weights-hold = k };
+  kept = record { state = e ∙ start-state (length weights); sizes-hold = h .zeros; weights-hold = k .zeros };
   follows = refl;
   below = omega arith;
   sizes-length = refl;
@@ -56,7 +60,7 @@ went-stop : (t : Step) (k : ℕ) (sizes weights : List ℕ) → Went t (Stop k) 
 went-stop (go p) k sizes weights (s′, (e, h)) = let z : _≡_ {A = ℕ} 0 1 = cc in absurd (omega arith)
 went-stop (stop j) k sizes weights e = let q : j ≡ k = cc in ap stop q
 
-pub follow-stop : (line k : ℕ) (ls : List (List ℕ)) → follow line ls (stop k) ≡ refused k line
+pub follow-stop : (line k : ℕ) (ls : List (List ℕ)) → follow line ls (stop k) ≡ refused (refusal k line)
 unfolding follow
 follow-stop line k [] = refl
 follow-stop line k (l ∷ ls) = refl
@@ -82,45 +86,55 @@ module _ {text sizes₀ weights₀ sizes weights : List ℕ} {s : State} {from l
   unfolding follow
   follow-line {end} h u = rw (add-one line) (sym (ap (λ (ls : List (List ℕ)). follow line ls (go (c .done))) (ap (map bytesOf) (u .piece h))) ∙ c .follows)
 
-  pub reached-on : {end : ℕ} (s′ : State) (sizes′ weights′ : List ℕ) → from < length text → Until (code "\n") from text end
-      → Went (step (c .done) (formOf (parts (between from end text)))) (On s′) sizes′ weights′
-      → length sizes′ ≡ length sizes → length weights′ ≡ length weights
-      → Reached text sizes₀ weights₀ sizes′ weights′ s′ (end + 1) (line + 1)
-  reached-on {end} s′ sizes′ weights′ h u w e f = on (went-on (step (c .done) (formOf (parts (between from end text)))) s′ sizes′ weights′ w)
-    where
-      on : (q : Progress) × (step (c .done) (formOf (parts (between from end text))) ≡ go q) × Kept q s′ sizes′ weights′ → Reached text sizes₀ weights₀ sizes′ weights′ s′ (end + 1) (line + 1)
-      on g = record {
-        done = g .0;
-        kept = g .2;
-        follows = ap (follow (line + 1) (linesFrom (end + 1) text)) (sym (g .1)) ∙ follow-line h u;
-        below = omega (arith, c .below, u .least);
-        sizes-length = e ∙ c .sizes-length;
-        weights-length = f ∙ c .weights-length;
-      }
+  module _ {end : ℕ} {r : Next} {sizes′ weights′ : List ℕ} (h : from < length text) (u : Until (code "\n") from text end)
+      (line-read : Advanced (between from end text) s sizes weights r sizes′ weights′) where
+    went : Went (step (c .done) (formOf (parts (between from end text)))) r sizes′ weights′
+    went = line-read .goes (c .done) (c .kept)
 
-  refusal : {end : ℕ} (k : ℕ) (sizes′ weights′ : List ℕ) → from < length text → Until (code "\n") from text end
-      → Went (step (c .done) (formOf (parts (between from end text)))) (Stop k) sizes′ weights′ → refused k (line + 1) ≡ whole text
-  refusal {end} k sizes′ weights′ h u w =
-      sym (follow-stop (line + 1) k (linesFrom (end + 1) text))
-      ∙ ap (follow (line + 1) (linesFrom (end + 1) text)) (sym (went-stop (step (c .done) (formOf (parts (between from end text)))) k sizes′ weights′ w))
-      ∙ follow-line h u
+    pub reached-on : {s′ : State} → r ≡ On s′ → length sizes′ ≡ length sizes → length weights′ ≡ length weights
+        → Reached text sizes₀ weights₀ sizes′ weights′ s′ (end + 1) (line + 1)
+    reached-on {s′} is e f = on (went-on (step (c .done) (formOf (parts (between from end text)))) s′ sizes′ weights′ (rw is at went))
+      where
+        on : (q : Progress) × (step (c .done) (formOf (parts (between from end text))) ≡ go q) × Kept q s′ sizes′ weights′
+            → Reached text sizes₀ weights₀ sizes′ weights′ s′ (end + 1) (line + 1)
+        on g = record {
+          done = g .0;
+          kept = g .2;
+          follows = ap (follow (line + 1) (linesFrom (end + 1) text)) (sym (g .1)) ∙ follow-line h u;
+          below = omega (arith, c .below, u .least);
+          sizes-length = e ∙ c .sizes-length;
+          weights-length = f ∙ c .weights-length;
+        }
 
-  pub reached-stop : {end : ℕ} (k : ℕ) (sizes′ weights′ : List ℕ) → from < length text → Until (code "\n") from text end
-      → Went (step (c .done) (formOf (parts (between from end text)))) (Stop k) sizes′ weights′
-      → (turned k (line + 1) ≡ answerOf (whole text)) × Filled (whole text) sizes′ weights′
-  reached-stop k sizes′ weights′ h u w =
-      let e : refused k (line + 1) ≡ whole text = refusal k sizes′ weights′ h u w in
-      (ap answerOf e, subst (λ (r : Reading). Filled r sizes′ weights′) e tt)
+    refusal-is : {k : ℕ} → r ≡ Stop k → refused (refusal k (line + 1)) ≡ whole text
+    refusal-is {k} is =
+        sym (follow-stop (line + 1) k (linesFrom (end + 1) text))
+        ∙ ap (follow (line + 1) (linesFrom (end + 1) text))
+        (sym (went-stop (step (c .done) (formOf (parts (between from end text)))) k sizes′ weights′ (rw is at went)))
+        ∙ follow-line h u
+
+    pub reached-stop : {k : ℕ} {answer : Read} → r ≡ Stop k → answer ≡ Refused (refusal k (line + 1)) → Followed (whole text) answer sizes′ weights′
+    reached-stop {k} is answers =
+        let e : refused (refusal k (line + 1)) ≡ whole text = refusal-is is in
+        record { outcome = ap answered answers ∙ ap answerOf e; memory = subst (λ (x : Reading). Filled x sizes′ weights′) e tt }
 
   the-end : length text ≤ from → ended (c .done .due) line (c .done) ≡ whole text
   unfolding follow cut
   the-end h = sym (ap (λ (l : List ℕ). follow line (map bytesOf (cut (code "\n") from l)) (go (c .done))) (drop-of-length-le text h)) ∙ c .follows
 
-  pub reached-end : length text ≤ from → (a : Answer) → a ≡ endedBy (s .due) s line → (a ≡ answerOf (whole text)) × Filled (whole text) sizes weights
-  reached-end h a q = (
-    q
+  pub reached-end : {r : Read} → length text ≤ from → Ended s line r → Followed (whole text) r sizes weights
+  reached-end h q = record {
+    outcome =
+        q .outcome
         ∙ ap (λ (x : State). endedBy (x .due) x line) (c .kept .state)
         ∙ ended-answer (c .done .due) (length weights) line (c .done)
-        ∙ ap answerOf (the-end h),
-    subst (λ (r : Reading). Filled r sizes weights) (the-end h) (ended-filled (c .done .due) line (c .done) s sizes weights (c .kept)),
-  )
+        ∙ ap answerOf (the-end h);
+    memory = subst (λ (x : Reading). Filled x sizes weights) (the-end h) (ended-filled (c .done .due) line (c .done) s sizes weights (c .kept));
+  }
+
+  -- the buffers keep their lengths
+  pub sizes-kept : (sizes′ : List ℕ) → length sizes′ ≡ length sizes → length sizes′ ≡ length sizes₀
+  sizes-kept sizes′ e = e ∙ c .sizes-length
+
+  pub weights-kept : (weights′ : List ℕ) → length weights′ ≡ length weights → length weights′ ≡ length weights₀
+  weights-kept weights′ e = e ∙ c .weights-length

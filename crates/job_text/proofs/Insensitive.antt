@@ -2,20 +2,20 @@
 use Prim.Native.Nat.{ℕ, zero, suc}
 use Prim.Native.Char.{code}
 use mathlib.Core.Path.{_≡_, refl, sym, ap, _∙_}
-use mathlib.Core.List.{List}
+use mathlib.Core.List.{List, [], _∷_}
 use mathlib.Core.Bool.{not, _||_}
 use lib.ListN.{length}
 use lib.Dec.{eqb}
 use borrow.Author.Tests.{le-ltb}
-use Rattle.closure.specs.Tests.{refuse}
-use Rattle.job_form.specs.Pieces.{parts}
+use Rattle.refusals.specs.Tests.{first}
+use Rattle.text.specs.Pieces.{parts}
 use Rattle.job_form.specs.Forms.{skipped, headOf, formOf}
-use Rattle.job_form.proofs.Runs.{parts-none, parts-before, parts-behind, parts-between, parts-byte}
+use Rattle.text.proofs.Runs.{parts-none, parts-before, parts-behind, parts-between, parts-byte}
 use Rattle.job_text.specs.declared.state.Due.{Due}
 use Rattle.job_text.specs.declared.state.Due.the-variants as due
 use Rattle.job_text.specs.Steps.{Progress, start, Step, go, stop, step}
 use Rattle.job_text.specs.Reading.{Reading, ended, follow, unless, readingOf}
-use Rattle.job_text.specs.Insensitive.{Spaced, same, before, behind, between, Skipped, blank, comment, space, Loosened, none, keep, skip, unnumbered, Insensitive}
+use Rattle.job_text.specs.claims.Insensitive.{Spaced, same, before, behind, between, Skipped, blank, comment, space, Loosened, none, keep, skip, unnumbered, Insensitive}
 use Rattle.job_text.proofs.Follows.{follow-stop}
 
 -- a line has the same parts
@@ -56,4 +56,4 @@ pub insensitive : Insensitive
 unfolding readingOf
 insensitive sizes weights text loosened h k r =
     rw (le-ltb 65536 (length text) h, le-ltb 65536 (length loosened) k)
-    (unless-alike (refuse (not (eqb sizes 16) || not (eqb weights 16384)) 18 0) _ _ (follow-alike r 0 0 (go start)))
+    (unless-alike (first 0 ((not (eqb sizes 16) || not (eqb weights 16384), 18) ∷ [])) _ _ (follow-alike r 0 0 (go start)))

@@ -1,11 +1,13 @@
 pub mod Listing
-pub mod Padded
+pub mod Zeros
+pub mod Tables
 pub mod Tallies
 pub mod Turns
-pub mod Scans
 pub mod Advances
 pub mod Follows
 pub mod Readings
 pub mod Insensitive
 pub mod Whole
+pub mod LineTests
+pub mod Refusals
 pub mod Borders

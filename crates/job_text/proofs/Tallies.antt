@@ -10,11 +10,14 @@ use lib.Dec.{ltb}
 use Rattle.semiring.specs.Algebra.{topOf}
 use Rattle.semiring.specs.declared.Algebra.{Algebra}
 use Rattle.memory.specs.Lists.{any}
-use Rattle.closure.specs.Tests.{anyAbove}
+use Rattle.refusals.specs.Tests.{first}
+use Rattle.semiring.specs.Words.{anyAbove}
 use Rattle.job_form.specs.declared.tokens.Token.{Token}
-use Rattle.job_text.specs.declared.rows.Tally.{Tally}
-use Rattle.job_text.specs.Steps.{wordOf, overIn, noWord, rowTests}
-use Rattle.job_text.specs.Tallies.{noTally, counted, tallied, rowNumber}
+use Rattle.job_form.specs.declared.rows.Tally.{Tally}
+use Rattle.job_form.specs.Words.{wordOf, overIn, noWord}
+use Rattle.job_text.specs.Steps.{rowTests}
+use Rattle.job_form.specs.inner.Tallies.{noTally, counted, tallied}
+use Rattle.job_text.specs.inner.Tallies.{tallyTests}
 
 or-false : (b : Bool) → b ≡ (b || false)
 or-false true = refl
@@ -50,5 +53,5 @@ tallied-found a c (t ∷ ts) =
       count = e i;
     })
 
-pub row-number : (a : Algebra) (size : ℕ) (ts : List Token) → rowNumber (tallied a noTally ts) size ≡ rowTests a size ts
-row-number a size ts = rw (tallied-found a noTally ts, zero-add (length ts))
+pub tally-tests : (a : Algebra) (size : ℕ) (ts : List Token) → first 0 (tallyTests (tallied a noTally ts) size) ≡ first 0 (rowTests a size ts)
+tally-tests a size ts = rw (tallied-found a noTally ts, zero-add (length ts))

@@ -1,81 +1,81 @@
--- What a step of the code answers, from the number of its tests.
-use Prim.Native.Nat.{ℕ, zero, suc, _<_}
+-- What a step of the code answers, form by form, from the number of its tests.
+use Prim.Native.Nat.{ℕ, zero, suc, _+_, _-_}
 use native.Mathlib.Omega.{arith}
 use mathlib.Core.Path.{_≡_, refl, sym, ap, ap₂, _∙_}
 use mathlib.Core.List.{List, [], _∷_, _++_}
-use lib.ListN.{length, set, length-set}
-use mathlib.Core.Bool.{Bool, true, false, not}
-use lib.Dec.{leb}
+use lib.ListN.{length, set, length-set, length-append}
 use borrow.Author.Tests.{leb-false}
-use Rattle.closure.specs.Tests.{refuse, outside}
+use mir.Syntax.{w16}
+use mir.Val.{Fits}
+use Rattle.semiring.specs.declared.Algebra.{Algebra}
+use Rattle.refusals.specs.Tests.{first}
 use Rattle.job_form.specs.declared.tokens.Token.{Token}
-use Rattle.job_form.specs.Tokens.{isNumeral, isOver, valueOf}
-use Rattle.job_form.specs.Forms.{Form, job}
+use Rattle.job_form.specs.Tokens.{valueOf, algebraNamed}
+use Rattle.job_form.specs.Forms.{Form, list, job, row, close, unknown}
 use Rattle.job_text.specs.declared.state.Due.{Due}
 use Rattle.job_text.specs.declared.state.Due.the-variants as due
 use Rattle.job_text.specs.declared.state.State.{State}
 use Rattle.job_text.specs.declared.state.Next.the-variants.{On, Stop}
-use Rattle.job_text.specs.Steps.{Progress, go, proceed, tests, after, step, forDue, jobTests}
-use Rattle.job_text.specs.States.{stateOf, nextOf, SizesWent}
-use Rattle.job_text.specs.Reading.{padded}
-use Rattle.job_text.proofs.Padded.{set-padded}
+use Rattle.job_form.specs.declared.rows.Tally.{Tally}
+use Rattle.job_text.specs.Steps.{Progress, go, proceed, tests, after, step, forDue, listTests, jobTests, listEndTests, dueAfterRow, dueAfterClose}
+use Rattle.job_form.specs.Buffer.{padded}
+use Rattle.job_text.specs.inner.Tested.{Tested}
+use Rattle.job_text.specs.inner.Tallies.{tallyTests}
+use Rattle.job_text.specs.inner.States.{stateOf, nextOf, RowOf, SizesWent}
+use Rattle.job_text.specs.inner.Stepped.{Stepped, JobStepped, RowStepped}
+use Rattle.job_form.proofs.Padded.{set-padded}
+use Rattle.refusals.proofs.First.{none-applied}
+use Rattle.job_text.proofs.Tallies.{tally-tests}
 
 stops : (n k : ℕ) (p : Progress) → (k ≡ 0 → ⊥) → Stop k ≡ nextOf n (proceed k p)
 stops n zero p h = absurd (h refl)
 stops n (suc k) p h = refl
 
-pub stopped : (n : ℕ) (p : Progress) (f : Form) (k : ℕ) → k ≡ tests p f → (k ≡ 0 → ⊥) → Stop k ≡ nextOf n (step p f)
+stopped : (n : ℕ) (p : Progress) (f : Form) (k : ℕ) → k ≡ tests p f → (k ≡ 0 → ⊥) → Stop k ≡ nextOf n (step p f)
 unfolding step
 stopped n p f k e h = stops n k (after p f) h ∙ ap (λ (m : ℕ). nextOf n (proceed m (after p f))) e
 
-pub goes : (p : Progress) (f : Form) → tests p f ≡ 0 → step p f ≡ go (after p f)
+goes : (p : Progress) (f : Form) → tests p f ≡ 0 → step p f ≡ go (after p f)
 unfolding step
 goes p f e = ap (λ (m : ℕ). proceed m (after p f)) e
 
 pub gone : (n : ℕ) (p : Progress) (f : Form) (s : State) → tests p f ≡ 0 → s ≡ stateOf n (after p f) → On s ≡ nextOf n (step p f)
 gone n p f s e h = ap On h ∙ sym (ap (nextOf n) (goes p f e))
 
--- No form is unknown and accepted.
-pub unknown-number : (d : Due) → forDue d 14 14 14 14 ≡ 0 → ⊥
-unknown-number due.List e = omega arith
-unknown-number due.Job e = omega arith
-unknown-number due.Row e = omega arith
-unknown-number due.Close e = omega arith
-unknown-number due.Nothing e = omega arith
+-- a list's line
+module _ (s : State) (order algebra : Token) {k number : ℕ} (t : Tested (listTests order algebra) k) (e : number ≡ forDue (s .due) k 14 14 14) where
+  list-number : (n : ℕ) (p : Progress) → s ≡ stateOf n p → number ≡ tests p (list order algebra)
+  list-number n p is = e ∙ ap₂ (λ (d : Due) (x : ℕ). forDue d x 14 14 14) (ap (λ (x : State). x .due) is) (t .number-is)
 
-pub refuse-zero : (b : Bool) (k rest : ℕ) → refuse b (suc k) rest ≡ 0 → (b ≡ false) × (rest ≡ 0)
-refuse-zero true k rest e = absurd (omega arith)
-refuse-zero false k rest e = (refl, e)
+  pub list-stops : (number ≡ 0 → ⊥) → Stepped s (list order algebra) (Stop number)
+  list-stops some = record { outcome = λ n p is. stopped n p (list order algebra) number (list-number n p is) some }
 
-pub job-due : (d : Due) (k : ℕ) → forDue d 14 k 14 14 ≡ 0 → k ≡ 0
+  pub list-goes : {v : ℕ} {a : Algebra} → number ≡ 0 → v ≡ valueOf order → a ≡ algebraNamed algebra
+      → Stepped s (list order algebra) (On (record { due = due.Job; order = v; algebra = a; jobs = s .jobs; size = 0; left = 0; at = s .at }))
+  list-goes none isV isA = record {
+    outcome = λ n p is.
+        gone n p (list order algebra) _ (sym (list-number n p is) ∙ none)
+        (λ i. record { due = due.Job; order = isV i; algebra = isA i; jobs = is i .jobs; size = 0; left = 0; at = is i .at });
+  }
+
+-- a job's line
+job-due : (d : Due) (k : ℕ) → forDue d 14 k 14 14 ≡ 0 → k ≡ 0
 job-due due.List k e = absurd (omega arith)
 job-due due.Job k e = e
 job-due due.Row k e = absurd (omega arith)
 job-due due.Close k e = absurd (omega arith)
 job-due due.Nothing k e = absurd (omega arith)
 
--- A job that is accepted is at most the 16th.
-pub jobs-below : (d : Due) (order jobs : ℕ) (t : Token) → forDue d 14 (jobTests order jobs t) 14 14 ≡ 0 → jobs < 16
-jobs-below d order jobs t e =
-    let last : ℕ = refuse (leb 16 jobs) 7 0 in
-    let range : ℕ = refuse (outside 1 order (valueOf t)) 8 last in
-    let over : ℕ = refuse (isOver t) 15 range in
-    let e₁ : refuse (not (isNumeral t)) 14 over ≡ 0 = job-due d (jobTests order jobs t) e in
-    let e₂ : over ≡ 0 = refuse-zero (not (isNumeral t)) 13 over e₁ .1 in
-    let e₃ : range ≡ 0 = refuse-zero (isOver t) 14 range e₂ .1 in
-    let e₄ : last ≡ 0 = refuse-zero (outside 1 order (valueOf t)) 7 last e₃ .1 in
-    leb-false 16 jobs (refuse-zero (leb 16 jobs) 6 0 e₄ .0)
-
 -- The sizes after a job: as they were told to be, or of no account.
 sizes-stops : (k : ℕ) (p q : Progress) (old new : List ℕ) → (k ≡ 0 → ⊥) → SizesWent p (proceed k q) old new
 sizes-stops zero p q old new h = absurd (h refl)
 sizes-stops (suc k) p q old new h = tt
 
-pub sizes-stopped : (p : Progress) (f : Form) (k : ℕ) (old new : List ℕ) → k ≡ tests p f → (k ≡ 0 → ⊥) → SizesWent p (step p f) old new
+sizes-stopped : (p : Progress) (f : Form) (k : ℕ) (old new : List ℕ) → k ≡ tests p f → (k ≡ 0 → ⊥) → SizesWent p (step p f) old new
 unfolding step
 sizes-stopped p f k old new e h = sizes-stops (tests p f) p (after p f) old new (rw e at h)
 
-pub sizes-gone : (p : Progress) (t : Token) (v : ℕ) (old new : List ℕ) → tests p (job t) ≡ 0 → new ≡ set old (length (p .sizes)) v → v ≡ valueOf t
+sizes-gone : (p : Progress) (t : Token) (v : ℕ) (old new : List ℕ) → tests p (job t) ≡ 0 → new ≡ set old (length (p .sizes)) v → v ≡ valueOf t
     → SizesWent p (step p (job t)) old new
 sizes-gone p t v old new e h q =
     rw (goes p (job t) e)
@@ -84,3 +84,112 @@ sizes-gone p t v old new e h q =
     ∙ ap₂ (λ (l : List ℕ) (x : ℕ). set l (length (p .sizes)) x) hold q
     ∙ set-padded (length old) (p .sizes) (valueOf t)
     ∙ ap (λ (n : ℕ). padded n (p .sizes ++ (valueOf t ∷ []))) (sym (ap length h ∙ length-set old (length (p .sizes)) v)))
+
+module _ (s : State) (size : Token) {k number : ℕ} (t : Tested (jobTests (s .order) (s .jobs) size) k) (e : number ≡ forDue (s .due) 14 k 14 14) where
+  job-number : (n : ℕ) (p : Progress) → s ≡ stateOf n p → number ≡ tests p (job size)
+  job-number n p is =
+      e
+      ∙ ap₂ (λ (d : Due) (x : ℕ). forDue d 14 x 14 14) (ap (λ (x : State). x .due) is)
+      (t .number-is ∙ ap (λ (x : State). first 0 (jobTests (x .order) (x .jobs) size)) is)
+
+  pub job-stops : {sizes : List ℕ} → (number ≡ 0 → ⊥) → JobStepped s size sizes (Stop number) sizes
+  job-stops {sizes} some = record {
+    stepped = record { outcome = λ n p is. stopped n p (job size) number (job-number n p is) some };
+    memory = λ n p is. sizes-stopped p (job size) number sizes sizes (job-number n p is) some;
+  }
+
+  -- A job that is accepted is at most the 16th.
+  pub job-counted : number ≡ 0 → Fits w16 (s .jobs + 1)
+  job-counted none =
+      let z : first 0 (jobTests (s .order) (s .jobs) size) ≡ 0 = sym (t .number-is) ∙ job-due (s .due) k (sym e ∙ none) in
+      let clear = none-applied (jobTests (s .order) (s .jobs) size) refl z in
+      omega (arith, leb-false 16 (s .jobs) (clear .1 .1 .1 .0))
+
+  pub job-goes : {v : ℕ} {old new : List ℕ} → number ≡ 0 → v ≡ valueOf size → new ≡ set old (s .jobs) v
+      → JobStepped s size old (On (record { due = due.Row; order = s .order; algebra = s .algebra; jobs = s .jobs + 1; size = v; left = v; at = s .at })) new
+  job-goes {v} {old} {new} none isV stored = record {
+    stepped = record {
+      outcome = λ n p is.
+          gone n p (job size) _ (sym (job-number n p is) ∙ none)
+          (λ i. record {
+            due = due.Row;
+            order = is i .order;
+            algebra = is i .algebra;
+            jobs = (ap (λ (x : State). x .jobs + 1) is ∙ sym (length-append (p .sizes) (valueOf size ∷ []))) i;
+            size = isV i;
+            left = isV i;
+            at = is i .at;
+          });
+    };
+    memory = λ n p is. sizes-gone p size v old new (sym (job-number n p is) ∙ none) (stored ∙ ap (λ (x : State). set old (x .jobs) v) is) isV;
+  }
+
+-- a row's line
+module _ (s : State) (tally : Tally) {k number : ℕ} (t : Tested (tallyTests tally (s .size)) k) (e : number ≡ forDue (s .due) 14 14 k 14) where
+  row-number : {n : ℕ} {p : Progress} {ts : List Token} {at : ℕ} → s ≡ stateOf n p → RowOf n p ts tally at → number ≡ tests p (row ts)
+  row-number {n} {p} {ts} is found =
+      e
+      ∙ ap₂ (λ (d : Due) (x : ℕ). forDue d 14 14 x 14) (ap (λ (x : State). x .due) is)
+      (t .number-is
+      ∙ ap₂ (λ (c : Tally) (m : ℕ). first 0 (tallyTests c m)) (found .counts) (ap (λ (x : State). x .size) is)
+      ∙ tally-tests (p .algebra) (p .size) ts)
+
+  pub row-stops : {at : ℕ} → (number ≡ 0 → ⊥) → RowStepped s tally at (Stop number)
+  row-stops some = record { outcome = λ n p ts is found. stopped n p (row ts) number (row-number is found) some }
+
+  pub row-goes : {at left : ℕ} {d : Due} → number ≡ 0 → d ≡ dueAfterRow (s .left) → left ≡ s .left - 1
+      → RowStepped s tally at (On (record { due = d; order = s .order; algebra = s .algebra; jobs = s .jobs; size = s .size; left = left; at = at }))
+  row-goes none isD isLeft = record {
+    outcome = λ n p ts is found.
+        gone n p (row ts) _ (sym (row-number is found) ∙ none)
+        (λ i. record {
+          due = (isD ∙ ap (λ (x : State). dueAfterRow (x .left)) is) i;
+          order = is i .order;
+          algebra = is i .algebra;
+          jobs = is i .jobs;
+          size = is i .size;
+          left = (isLeft ∙ ap (λ (x : State). x .left - 1) is) i;
+          at = found .place i;
+        });
+  }
+
+-- a bracket that closes a job or the list
+module _ (s : State) {k number : ℕ} (t : Tested (listEndTests (s .jobs)) k) (e : number ≡ forDue (s .due) 14 k 14 0) where
+  close-number : (n : ℕ) (p : Progress) → s ≡ stateOf n p → number ≡ tests p close
+  close-number n p is =
+      e
+      ∙ ap₂ (λ (d : Due) (x : ℕ). forDue d 14 x 14 0) (ap (λ (x : State). x .due) is)
+      (t .number-is ∙ ap (λ (x : State). first 0 (listEndTests (x .jobs))) is)
+
+  pub close-stops : (number ≡ 0 → ⊥) → Stepped s close (Stop number)
+  close-stops some = record { outcome = λ n p is. stopped n p close number (close-number n p is) some }
+
+  pub close-goes : {d : Due} → number ≡ 0 → d ≡ dueAfterClose (s .due)
+      → Stepped s close (On (record { due = d; order = s .order; algebra = s .algebra; jobs = s .jobs; size = s .size; left = s .left; at = s .at }))
+  close-goes none isD = record {
+    outcome = λ n p is.
+        gone n p close _ (sym (close-number n p is) ∙ none)
+        (λ i. record {
+          due = (isD ∙ ap (λ (x : State). dueAfterClose (x .due)) is) i;
+          order = is i .order;
+          algebra = is i .algebra;
+          jobs = is i .jobs;
+          size = is i .size;
+          left = is i .left;
+          at = is i .at;
+        });
+  }
+
+-- No form is unknown and accepted.
+unknown-number : (d : Due) → forDue d 14 14 14 14 ≡ 0 → ⊥
+unknown-number due.List e = omega arith
+unknown-number due.Job e = omega arith
+unknown-number due.Row e = omega arith
+unknown-number due.Close e = omega arith
+unknown-number due.Nothing e = omega arith
+
+pub unknown-stops : {s : State} {number : ℕ} → number ≡ forDue (s .due) 14 14 14 14 → Stepped s unknown (Stop number)
+unknown-stops {s} {number} e = record {
+  outcome = λ n p is.
+      stopped n p unknown number (e ∙ ap (λ (x : State). forDue (x .due) 14 14 14 14) is) (λ z. unknown-number (s .due) (sym e ∙ z));
+}

@@ -4,25 +4,30 @@ use native.Mathlib.Nat.{zero-mul}
 use native.Mathlib.Omega.{arith}
 use mathlib.Core.Path.{_≡_, refl, ap, _∙_}
 use mathlib.Core.List.{List, [], _∷_, _++_, map}
-use mathlib.Core.Bool.{Bool, true, false, not, _||_}
+use mathlib.Core.Bool.{Bool, true, false}
 use lib.ListN.{length, length-append, length-map}
-use lib.Dec.{eqb, ltb, leb}
-use borrow.Author.Tests.{ltb-false, leb-true, leb-false, eqb-true, eqb-false, not-false}
+use lib.Dec.{ltb, leb}
+use borrow.Author.Tests.{leb-true, leb-false, eqb-false}
 use Rattle.semiring.specs.Algebra.{topOf}
 use Rattle.semiring.specs.declared.Algebra.{Algebra}
 use Rattle.memory.specs.Lists.{any}
-use Rattle.closure.specs.Tests.{refuse, outside, anyAbove}
+use Rattle.refusals.specs.Tests.{first, outside}
+use Rattle.semiring.specs.Words.{anyAbove}
+use Rattle.refusals.proofs.First.{equal, inside, none-applied}
 use Rattle.memory.proofs.Any.{both-false}
+use Rattle.job_list.specs.Jobs.{offset, wordsOf, jobsOf}
+use Rattle.job_list.specs.Fits.{anyOutside, ListAccepted}
+use Rattle.job_list.proofs.Fits.{sizes-fit, tested-words, fits-small, words-most}
 use Rattle.job_form.specs.declared.tokens.Token.{Token}
-use Rattle.job_form.specs.Pieces.{lines, parts}
-use Rattle.job_form.specs.Tokens.{isNumeral, isOver, isName, valueOf}
+use Rattle.text.specs.Pieces.{lines, parts}
+use Rattle.job_form.specs.Tokens.{valueOf}
 use Rattle.job_form.specs.Forms.{Form, list, job, row, close, skipped, unknown, formOf}
 use Rattle.job_text.specs.declared.state.Due.{Due}
 use Rattle.job_text.specs.declared.state.Due.the-variants as due
-use Rattle.job_text.specs.Steps.{Progress, start, overIn, noWord, wordOf, forDue, listTests, jobTests, rowTests, listEndTests, tests, after, dueAfterRow, dueAfterClose, Step, go, stop, proceed, step}
-use Rattle.job_text.specs.Reading.{Reading, refused, accepted, ended, follow, unless, readingOf}
-use Rattle.job_text.specs.Whole.{squares, Accepted, Whole}
-use Rattle.job_text.proofs.Turns.{refuse-zero}
+use Rattle.job_text.specs.Steps.{Progress, start, forDue, listTests, jobTests, rowTests, listEndTests, tests, after, dueAfterRow, dueAfterClose, Step, go, stop, proceed, step}
+use Rattle.job_form.specs.Words.{wordOf}
+use Rattle.job_text.specs.Reading.{Reading, refused, accepted, ended, follow, unless, lengthTests, readingOf}
+use Rattle.job_text.specs.claims.Whole.{Whole, Within-buffers}
 
 -- What is due, and what has been read by then: no list, whole jobs, or a job with rows left.
 abbrev Stage : Due → Progress → Type 0
@@ -34,31 +39,27 @@ Stage due.Nothing p = (1 ≤ p .order) × (p .left ≡ 0) × (1 ≤ length (p .s
 
 record Within (p : Progress) : Type 0 where
   pub orders : p .order ≤ 32
-  pub points : p .size ≤ 32
   pub jobs : length (p .sizes) ≤ 16
-  pub words : length (p .weights) + 32 * p .left ≤ 1024 * length (p .sizes)
-  pub due-words : length (p .weights) + p .left * p .size ≡ squares (p .sizes)
-  pub inside : any (outside 1 (p .order)) (p .sizes) ≡ false
+  pub due-words : length (p .weights) + p .left * p .size ≡ wordsOf (p .sizes)
+  pub sizes-inside : anyOutside (p .order) (p .sizes) ≡ false
   pub below : anyAbove (topOf (p .algebra)) (p .weights) ≡ false
   pub stage : Stage (p .due) p
 
 within-start : Within start
-unfolding squares any
+unfolding offset any
 within-start = record {
   orders = omega arith;
-  points = omega arith;
   jobs = omega arith;
-  words = omega arith;
   due-words = refl;
-  inside = refl;
+  sizes-inside = refl;
   below = refl;
   stage = (refl, refl);
 }
 
-squares-append : (l : List ℕ) (n : ℕ) → squares (l ++ (n ∷ [])) ≡ squares l + n * n
-unfolding squares
-squares-append [] n = omega arith
-squares-append (x ∷ l) n = omega (arith, squares-append l n)
+words-append : (l : List ℕ) (n : ℕ) → wordsOf (l ++ (n ∷ [])) ≡ wordsOf l + n * n
+unfolding offset
+words-append [] n = omega arith
+words-append (x ∷ l) n = omega (arith, words-append l n)
 
 any-append : (test : ℕ → Bool) (l m : List ℕ) → any test l ≡ false → any test m ≡ false → any test (l ++ m) ≡ false
 unfolding any
@@ -89,47 +90,27 @@ row-due due.Row p k s e = (e, s .0, s .1)
 row-due due.Close p k s e = absurd (omega arith)
 row-due due.Nothing p k s e = absurd (omega arith)
 
-not-outside : (least most n : ℕ) → outside least most n ≡ false → (least ≤ n) × (n ≤ most)
-not-outside least most n e =
-    let b : (ltb n least ≡ false) × (ltb most n ≡ false) = both-false (ltb n least) (ltb most n) e in
-    (ltb-false n least (b .0), ltb-false most n (b .1))
-
-order-range : (n a : Token) → listTests n a ≡ 0 → (1 ≤ valueOf n) × (valueOf n ≤ 32)
+order-range : (n a : Token) → first 0 (listTests n a) ≡ 0 → (1 ≤ valueOf n) × (valueOf n ≤ 32)
 order-range n a e =
-    let range : ℕ = refuse (outside 1 32 (valueOf n)) 6 0 in
-    let over : ℕ = refuse (isOver n) 15 range in
-    let name : ℕ = refuse (not (isName a)) 14 over in
-    let e₁ : name ≡ 0 = refuse-zero (not (isNumeral n)) 13 name e .1 in
-    let e₂ : over ≡ 0 = refuse-zero (not (isName a)) 13 over e₁ .1 in
-    let e₃ : range ≡ 0 = refuse-zero (isOver n) 14 range e₂ .1 in
-    not-outside 1 32 (valueOf n) (refuse-zero (outside 1 32 (valueOf n)) 5 0 e₃ .0)
+    let clear = none-applied (listTests n a) refl e in
+    inside (clear .1 .1 .1 .0)
 
-job-most : (order jobs : ℕ) (n : Token) → jobTests order jobs n ≡ 0 → (outside 1 order (valueOf n) ≡ false) × (jobs < 16)
+job-most : (order jobs : ℕ) (n : Token) → first 0 (jobTests order jobs n) ≡ 0 → (outside 1 order (valueOf n) ≡ false) × (jobs < 16)
 job-most order jobs n e =
-    let last : ℕ = refuse (leb 16 jobs) 7 0 in
-    let range : ℕ = refuse (outside 1 order (valueOf n)) 8 last in
-    let over : ℕ = refuse (isOver n) 15 range in
-    let e₁ : over ≡ 0 = refuse-zero (not (isNumeral n)) 13 over e .1 in
-    let e₂ : range ≡ 0 = refuse-zero (isOver n) 14 range e₁ .1 in
-    let e₃ : (outside 1 order (valueOf n) ≡ false) × (last ≡ 0) = refuse-zero (outside 1 order (valueOf n)) 7 last e₂ in
-    (e₃ .0, leb-false 16 jobs (refuse-zero (leb 16 jobs) 6 0 (e₃ .1) .0))
+    let clear = none-applied (jobTests order jobs n) refl e in
+    (clear .1 .1 .0, leb-false 16 jobs (clear .1 .1 .1 .0))
 
-row-words : (a : Algebra) (size : ℕ) (ts : List Token) → rowTests a size ts ≡ 0
+row-words : (a : Algebra) (size : ℕ) (ts : List Token) → first 0 (rowTests a size ts) ≡ 0
     → (length ts ≡ size) × (anyAbove (topOf a) (map (wordOf a) ts) ≡ false)
 row-words a size ts e =
-    let above : ℕ = refuse (anyAbove (topOf a) (map (wordOf a) ts)) 5 0 in
-    let count : ℕ = refuse (not (eqb (length ts) size)) 16 above in
-    let over : ℕ = refuse (any (overIn a) ts) 15 count in
-    let e₁ : over ≡ 0 = refuse-zero (any noWord ts) 13 over e .1 in
-    let e₂ : count ≡ 0 = refuse-zero (any (overIn a) ts) 14 count e₁ .1 in
-    let e₃ : (not (eqb (length ts) size) ≡ false) × (above ≡ 0) = refuse-zero (not (eqb (length ts) size)) 15 above e₂ in
-    (eqb-true (length ts) size (not-false (eqb (length ts) size) (e₃ .0)), refuse-zero (anyAbove (topOf a) (map (wordOf a) ts)) 4 0 (e₃ .1) .0)
+    let clear = none-applied (rowTests a size ts) refl e in
+    (equal (length ts) size (clear .1 .1 .0), clear .1 .1 .1 .0)
 
-close-stage : (d : Due) (p : Progress) → Stage d p → forDue d 14 (listEndTests (length (p .sizes))) 14 0 ≡ 0
+close-stage : (d : Due) (p : Progress) → Stage d p → forDue d 14 (first 0 (listEndTests (length (p .sizes)))) 14 0 ≡ 0
     → Stage (dueAfterClose d) (after p close)
 close-stage due.List p s e = absurd (omega arith)
 close-stage due.Job p s e =
-    (s .0, s .1, some (length (p .sizes)) (eqb-false (length (p .sizes)) 0 (refuse-zero (eqb (length (p .sizes)) 0) 6 0 e .0)))
+    (s .0, s .1, some (length (p .sizes)) (eqb-false (length (p .sizes)) 0 (none-applied (listEndTests (length (p .sizes))) refl e .0)))
   where
     some : (n : ℕ) → (n ≡ 0 → ⊥) → 1 ≤ n
     some n h = omega arith
@@ -143,38 +124,35 @@ row-stage p q true e h o l = rw e (omega arith, omega (arith, leb-true (p .left)
 row-stage p q false e h o l = rw e (omega arith, omega (arith, leb-false (p .left) 1 e))
 
 within-after : (p : Progress) (f : Form) → Within p → tests p f ≡ 0 → Within (after p f)
-unfolding squares any
+unfolding offset any
 within-after p (list n a) w e =
-    let (k, sizes, weights) = list-due (p .due) p (listTests n a) (w .stage) e in
+    let (k, sizes, weights) = list-due (p .due) p (first 0 (listTests n a)) (w .stage) e in
     let h : (1 ≤ valueOf n) × (valueOf n ≤ 32) = order-range n a k in
     record {
       orders = h .1;
-      points = omega arith;
       jobs = w .jobs;
-      words = omega (arith, w .words);
       due-words = rw (sizes, weights);
-      inside = rw sizes;
+      sizes-inside = rw sizes;
       below = rw weights;
       stage = (h .0, refl);
     }
 within-after p (job n) w e =
-    let (k, least, none) = job-due (p .due) p (jobTests (p .order) (length (p .sizes)) n) (w .stage) e in
+    let (k, least, none) = job-due (p .due) p (first 0 (jobTests (p .order) (length (p .sizes)) n)) (w .stage) e in
     let (range, few) = job-most (p .order) (length (p .sizes)) n k in
-    let (some, most) = not-outside 1 (p .order) (valueOf n) range in
+    let between : (1 ≤ valueOf n) × (valueOf n ≤ p .order) = inside range in
+    let (some, most) = between in
     let long : length (p .sizes ++ (valueOf n ∷ [])) ≡ length (p .sizes) + 1 = length-append (p .sizes) (valueOf n ∷ []) in
     let nothing : p .left * p .size ≡ 0 = rw none (zero-mul (p .size)) in
     record {
       orders = w .orders;
-      points = omega (arith, w .orders);
       jobs = omega arith;
-      words = omega (arith, w .words, w .orders);
-      due-words = omega (arith, squares-append (p .sizes) (valueOf n), w .due-words);
-      inside = any-append (outside 1 (p .order)) (p .sizes) (valueOf n ∷ []) (w .inside) (rw range);
+      due-words = omega (arith, words-append (p .sizes) (valueOf n), w .due-words);
+      sizes-inside = any-append (outside 1 (p .order)) (p .sizes) (valueOf n ∷ []) (w .sizes-inside) (rw range);
       below = w .below;
       stage = (least, some);
     }
 within-after p (row ts) w e =
-    let (k, least, some) = row-due (p .due) p (rowTests (p .algebra) (p .size) ts) (w .stage) e in
+    let (k, least, some) = row-due (p .due) p (first 0 (rowTests (p .algebra) (p .size) ts)) (w .stage) e in
     let (row-long, below) = row-words (p .algebra) (p .size) ts k in
     let ws : List ℕ = map (wordOf (p .algebra)) ts in
     let long : length (p .weights ++ ws) ≡ length (p .weights) + length ts =
@@ -183,21 +161,17 @@ within-after p (row ts) w e =
     let one-less : p .left * p .size ≡ (p .left - 1 + 1) * p .size = ap (λ (m : ℕ). m * p .size) less in
     record {
       orders = w .orders;
-      points = w .points;
       jobs = w .jobs;
-      words = omega (arith, w .words, w .points);
       due-words = omega (arith, w .due-words);
-      inside = w .inside;
+      sizes-inside = w .sizes-inside;
       below = any-append (ltb (topOf (p .algebra))) (p .weights) ws (w .below) below;
       stage = row-stage p (after p (row ts)) (leb (p .left) 1) refl least refl refl;
     }
 within-after p close w e = record {
   orders = w .orders;
-  points = w .points;
   jobs = w .jobs;
-  words = w .words;
   due-words = w .due-words;
-  inside = w .inside;
+  sizes-inside = w .sizes-inside;
   below = w .below;
   stage = close-stage (p .due) p (w .stage) e;
 }
@@ -218,8 +192,8 @@ within-step p f w = at (tests p f) refl
     at (suc k) e = tt
 
 Fitting : Reading → Type 0
-Fitting (refused number line) = Unit {0}
-Fitting (accepted order algebra sizes weights) = Accepted order algebra sizes weights
+Fitting (refused r) = Unit {0}
+Fitting (accepted order algebra sizes weights) = ListAccepted (jobsOf algebra order sizes weights)
 
 ended-fits : (d : Due) (line : ℕ) (p : Progress) → Within p → Stage d p → Fitting (ended d line p)
 unfolding Fitting
@@ -230,14 +204,12 @@ ended-fits due.Close line p w s = tt
 ended-fits due.Nothing line p w s =
     let nothing : p .left * p .size ≡ 0 = rw (s .1) (zero-mul (p .size)) in
     record {
-      order-least = s .0;
-      order-most = w .orders;
-      some = s .2;
-      few = w .jobs;
-      sizes-inside = w .inside;
-      words = omega (arith, w .due-words);
-      words-most = omega (arith, w .jobs, w .words);
-      none-above = w .below;
+      fits = record {
+        ranged = record { least = s .0; most = w .orders; some = s .2; few = w .jobs };
+        sizes-fit = sizes-fit (p .order) (p .sizes) (w .sizes-inside);
+      };
+      weights-fit = omega (arith, w .due-words);
+      words = tested-words (p .algebra) (p .order) (p .sizes) (p .weights) (w .below);
     }
 
 follow-fits : (line : ℕ) (ls : List (List ℕ)) (t : Step) → WithinStep t → Fitting (follow line ls t)
@@ -257,6 +229,11 @@ unfolding readingOf WithinStep Fitting
 whole m n text order algebra sizes weights e =
     rw e at
     (unless-fits
-    (refuse (not (eqb m 16) || not (eqb n 16384)) 18 (refuse (ltb 65536 (length text)) 13 0))
+    (first 0 (lengthTests m n (length text)))
     (follow 0 (lines text) (go start))
     (follow-fits 0 (lines text) (go start) within-start))
+
+pub within-buffers : Within-buffers
+within-buffers m n text order algebra sizes weights e =
+    let list : ListAccepted (jobsOf algebra order sizes weights) = whole m n text order algebra sizes weights e in
+    (list .fits .ranged .few, omega (arith, list .weights-fit, words-most (fits-small (list .fits))))

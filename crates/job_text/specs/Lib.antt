@@ -1,7 +1,4 @@
 pub mod Steps
 pub mod Reading
-pub mod Listing
-pub mod Tallies
-pub mod States
-pub mod Insensitive
-pub mod Whole
+pub mod inner
+pub mod claims

@@ -1,64 +1,66 @@
 -- Document 01, row Text of "Where each call turns back": what reading a whole text gives.
 use Prim.Native.Nat.{ℕ, zero, suc}
+use mathlib.Core.Path.{_≡_}
 use mathlib.Core.List.{List, [], _∷_}
-use mathlib.Core.Bool.{not, _||_}
+use mathlib.Core.Bool.{Bool, not, _||_}
 use lib.ListN.{length}
 use lib.Dec.{eqb, ltb}
 use Rattle.semiring.specs.declared.Algebra.{Algebra}
 use Rattle.semiring.specs.Named.{numberOf}
-use Rattle.closure.specs.Tests.{refuse}
-use Rattle.job_form.specs.Pieces.{lines, parts}
+use Rattle.refusals.specs.Tests.{first}
+use Rattle.text.specs.Pieces.{lines, parts}
 use Rattle.job_form.specs.Forms.{formOf}
+use Rattle.job_form.specs.Buffer.{padded}
 use Rattle.job_text.specs.Steps.{Progress, byDue, Step, go, stop, start, step}
 use Rattle.job_text.specs.declared.state.Due.{Due}
+use Rattle.job_text.specs.declared.answer.Refusal.{Refusal}
 use Rattle.job_text.specs.declared.answer.Read.{Read}
 use Rattle.job_text.specs.declared.answer.Read.the-variants.{List as Listed, Refused}
 
--- A refusal with its line, or order, algebra, sizes and weights.
+-- "number, line"
+abbrev pub refusal : ℕ → ℕ → Refusal
+refusal number line = record { number = number; line = line }
+
+-- A refusal, or order, algebra, sizes and weights.
 pub data Reading : Type 0 where
-  refused : ℕ → ℕ → Reading
+  refused : Refusal → Reading
   accepted : ℕ → Algebra → List ℕ → List ℕ → Reading
 
 -- "last, 17 the text ends early", on the last line.
 abbrev pub ended : Due → ℕ → Progress → Reading
 ended d line p =
-    let early : Reading = refused 17 line in
+    let early : Reading = refused (refusal 17 line) in
     byDue early early early early (accepted (p .order) (p .algebra) (p .sizes) (p .weights)) d
 
 -- "then line by line": the lines to come, and what the `line` lines before them led to.
 unfoldable pub follow : ℕ → List (List ℕ) → Step → Reading
-follow line [] (stop number) = refused number line
+follow line [] (stop number) = refused (refusal number line)
 follow line [] (go p) = ended (p .due) line p
-follow line (l ∷ ls) (stop number) = refused number line
+follow line (l ∷ ls) (stop number) = refused (refusal number line)
 follow line (l ∷ ls) (go p) = follow (suc line) ls (step p (formOf (parts l)))
 
 -- "0 for 18 and 13"
 abbrev pub unless : ℕ → Reading → Reading
 unless zero r = r
-unless (suc k) r = refused (suc k) 0
+unless (suc k) r = refused (refusal (suc k) 0)
 
--- "18 sizes not 16 or weights not 16,384 words; 13 over 65,536 bytes", from the lengths of the two buffers.
+-- "18 sizes not 16 or weights not 16,384 words; 13 over 65,536 bytes", from the lengths of both buffers and the text.
+abbrev pub lengthTests : ℕ → ℕ → ℕ → List (Bool × ℕ)
+lengthTests sizes weights bytes =
+    (not (eqb sizes 16) || not (eqb weights 16384), 18)
+    ∷ (ltb 65536 bytes, 13)
+    ∷ []
+
 unfoldable pub readingOf : ℕ → ℕ → List ℕ → Reading
-readingOf sizes weights text =
-    unless
-    (refuse (not (eqb sizes 16) || not (eqb weights 16384)) 18
-    (refuse (ltb 65536 (length text)) 13
-    0))
-    (follow 0 (lines text) (go start))
-
--- "unused ones 0": a buffer of n words that begins with the words of a list.
-abbrev pub padded : ℕ → List ℕ → List ℕ
-padded zero ws = []
-padded (suc n) [] = 0 ∷ padded n []
-padded (suc n) (w ∷ ws) = w ∷ padded n ws
+readingOf sizes weights text = unless (first 0 (lengthTests sizes weights (length text))) (follow 0 (lines text) (go start))
 
 -- "zeroes both buffers at any length"
 abbrev pub sizesIn : Reading → List ℕ
-sizesIn (refused number line) = []
+sizesIn (refused r) = []
 sizesIn (accepted order algebra sizes weights) = sizes
 
 abbrev pub weightsIn : Reading → List ℕ
-weightsIn (refused number line) = []
+weightsIn (refused r) = []
 weightsIn (accepted order algebra sizes weights) = weights
 
 -- The buffers after a call, from the lengths of both and the text.
@@ -70,13 +72,19 @@ weightsAfter sizes weights text = padded weights (weightsIn (readingOf sizes wei
 
 -- "The reader gives N, algebra, Q": the paper's numbers for an answer.
 pub data Answer : Type 0 where
-  turned : ℕ → ℕ → Answer
+  turned : Refusal → Answer
   given : ℕ → ℕ → ℕ → Answer
 
 abbrev pub answerOf : Reading → Answer
-answerOf (refused number line) = turned number line
+answerOf (refused r) = turned r
 answerOf (accepted order algebra sizes weights) = given order (numberOf algebra) (length sizes)
 
 abbrev pub answered : Read → Answer
 answered (Listed order algebra jobs) = given order (numberOf algebra) jobs
-answered (Refused number line) = turned number line
+answered (Refused r) = turned r
+
+-- What a call of `read` answers and leaves, from the lengths of the two buffers and the text.
+pub record ReadInto (m n : ℕ) (text : List ℕ) (r : Read) (sizes weights : List ℕ) : Type 0 where
+  pub outcome : answered r ≡ answerOf (readingOf m n text)
+  pub sizes-left : sizes ≡ sizesAfter m n text
+  pub weights-left : weights ≡ weightsAfter m n text

@@ -1,18 +1,16 @@
 // The line that opens a job.
-ghost use mathlib.Core.Path.{_≡_};
-ghost use Prim.Native.Nat.{ℕ};
-ghost use Rattle.job_form.specs.Forms.{job};
-ghost use Rattle.job_text.specs.Steps.{Progress, jobTests, step};
-ghost use Rattle.job_text.specs.States.{stateOf, nextOf, SizesWent};
-use crate::buffers::store;
+ghost use Rattle.job_text.specs.Steps.{jobTests};
+ghost use Rattle.job_text.specs.inner.Tested.{Tested};
+ghost use Rattle.job_text.specs.inner.Stepped.{JobStepped};
 use crate::state::Due;
 use crate::state::Next;
 use crate::state::State;
 use crate::state::for_due;
 use job_form::Token;
+use job_form::store;
 
 fn job_tests(order: u16, jobs: u16, size: Token) -> u16
-    ensures { λ r. ⌜ r ≡ jobTests order jobs size ⌝ }
+    ensures { λ r. ⌜ Tested (jobTests order jobs size) r ⌝ }
 {
     if !size.is_numeral() {
         return 14;
@@ -34,8 +32,7 @@ fn job_tests(order: u16, jobs: u16, size: Token) -> u16
 }
 
 pub fn job_step(s: State, size: Token, sizes: &mut [u16]) -> Next
-    ensures outcome { λ r. ⌜ ((n : ℕ) (p : Progress) → s ≡ stateOf n p → r ≡ nextOf n (step p (job size))) ⌝ }
-    ensures memory { λ _. ⌜ ((n : ℕ) (p : Progress) → s ≡ stateOf n p → SizesWent p (step p (job size)) (now (sizes .entry)) (now (sizes .exit))) ⌝ }
+    ensures { λ r. ⌜ JobStepped s size (now (sizes .entry)) r (now (sizes .exit)) ⌝ }
 {
     let due = s.due;
     let number = for_due(due, 14, job_tests(s.order, s.jobs, size), 14, 14);

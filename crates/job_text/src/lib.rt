@@ -1,12 +1,11 @@
 // The reader of job texts: line by line to an order, an algebra, the jobs' sizes and their weights.
 ghost use mathlib.Core.Path.{_≡_};
-ghost use mathlib.Core.List.{[]};
 ghost use Prim.Native.Nat.{_≤_};
 ghost use lib.ListN.{length};
-ghost use Rattle.job_form.specs.Pieces.{lines};
+ghost use Rattle.text.specs.Pieces.{lines};
 ghost use Rattle.job_text.specs.Steps.{go, start};
-ghost use Rattle.job_text.specs.Reading.{follow, readingOf, padded, sizesAfter, weightsAfter, answerOf, answered};
-ghost use Rattle.job_text.specs.States.{stateOf, endedIn, Filled, Owed};
+ghost use Rattle.job_text.specs.Reading.{follow, ReadInto};
+ghost use Rattle.job_text.specs.inner.States.{stateOf, Cleared, LengthsTested, Ended, Followed, Owed};
 
 mod answer;
 mod buffers;
@@ -17,13 +16,15 @@ mod state;
 mod steps;
 
 pub use answer::Read;
+pub use answer::Refusal;
+use answer::refused;
 use buffers::clear;
-use job_form::until;
 use semiring::Algebra;
 use state::Due;
 use state::Next;
 use state::State;
 use steps::advance;
+use text::until;
 
 fn beginning() -> State
     ensures { λ r. ⌜ r ≡ stateOf 0 start ⌝ }
@@ -41,15 +42,15 @@ fn beginning() -> State
 
 // What a text answers whose last line has been read.
 fn finish(s: State, line: u32) -> Read
-    ensures { λ r. ⌜ answered r ≡ endedIn s line ⌝ }
+    ensures { λ r. ⌜ Ended s line r ⌝ }
 {
     let due = s.due;
     let algebra = s.algebra;
     match due {
-        Due::List => Read::Refused { number: 17, line },
-        Due::Job => Read::Refused { number: 17, line },
-        Due::Row => Read::Refused { number: 17, line },
-        Due::Close => Read::Refused { number: 17, line },
+        Due::List => refused(17, line),
+        Due::Job => refused(17, line),
+        Due::Row => refused(17, line),
+        Due::Close => refused(17, line),
         Due::Nothing => Read::List {
             order: s.order,
             algebra,
@@ -61,10 +62,9 @@ fn finish(s: State, line: u32) -> Read
 // Reads the lines into two buffers of zeros. A refusal leaves what was read before it.
 fn read_lines(text: &[u8], sizes: &mut [u16], weights: &mut [u16]) -> Read
     requires { ⌜ length (now text) ≤ 65536 ⌝ }
-    requires { ⌜ now sizes ≡ padded (length (now sizes)) [] ⌝ }
-    requires { ⌜ now weights ≡ padded (length (now weights)) [] ⌝ }
-    ensures outcome { λ r. ⌜ answered r ≡ answerOf (follow 0 (lines (now (text .entry))) (go start)) ⌝ }
-    ensures memory { λ _. ⌜ Filled (follow 0 (lines (now (text .entry))) (go start)) (now (sizes .exit)) (now (weights .exit)) ⌝ }
+    requires { ⌜ Cleared (length (now sizes)) (now sizes) ⌝ }
+    requires { ⌜ Cleared (length (now weights)) (now weights) ⌝ }
+    ensures { λ r. ⌜ Followed (follow 0 (lines (now (text .entry))) (go start)) r (now (sizes .exit)) (now (weights .exit)) ⌝ }
 {
     let mut s = beginning();
     let mut from = 0;
@@ -78,7 +78,7 @@ fn read_lines(text: &[u8], sizes: &mut [u16], weights: &mut [u16]) -> Read
                 s = after;
             }
             Next::Stop(number) => {
-                return Read::Refused { number, line };
+                return refused(number, line);
             }
         }
         from = end + 1;
@@ -89,10 +89,10 @@ fn read_lines(text: &[u8], sizes: &mut [u16], weights: &mut [u16]) -> Read
 // Reads a text within the limit into two buffers of zeros. A refusal leaves both of them 0.
 fn read_within(text: &[u8], sizes: &mut [u16], weights: &mut [u16]) -> Read
     requires { ⌜ length (now text) ≤ 65536 ⌝ }
-    requires { ⌜ now sizes ≡ padded (length (now sizes)) [] ⌝ }
-    requires { ⌜ now weights ≡ padded (length (now weights)) [] ⌝ }
+    requires { ⌜ Cleared (length (now sizes)) (now sizes) ⌝ }
+    requires { ⌜ Cleared (length (now weights)) (now weights) ⌝ }
     ensures { λ r. ⌜ Owed (length (now (sizes .entry))) (length (now (weights .entry)))
-        (follow 0 (lines (now (text .entry))) (go start)) (answered r) (now (sizes .exit)) (now (weights .exit)) ⌝ }
+        (follow 0 (lines (now (text .entry))) (go start)) r (now (sizes .exit)) (now (weights .exit)) ⌝ }
 {
     let answer = read_lines(text, sizes, weights);
     match answer {
@@ -105,42 +105,40 @@ fn read_within(text: &[u8], sizes: &mut [u16], weights: &mut [u16]) -> Read
             algebra,
             jobs,
         },
-        Read::Refused { number, line } => {
+        Read::Refused(why) => {
             clear(sizes);
             clear(weights);
-            Read::Refused { number, line }
+            Read::Refused(why)
         }
     }
 }
 
+// The number of the tests before any line.
+fn length_tests(sizes: usize, weights: usize, bytes: usize) -> u16
+    ensures { λ r. ⌜ LengthsTested sizes weights bytes r ⌝ }
+{
+    if sizes != 16 {
+        return 18;
+    }
+    if weights != 16384 {
+        return 18;
+    }
+    if 65536 < bytes {
+        return 13;
+    }
+    0
+}
+
 // Reads a job text: its sizes and weights into the two buffers, unused words 0. A refusal leaves both buffers 0.
 pub fn read(text: &[u8], sizes: &mut [u16], weights: &mut [u16]) -> Read
-    ensures outcome { λ r. ⌜ answered r
-        ≡ answerOf (readingOf (length (now (sizes .entry))) (length (now (weights .entry))) (now (text .entry))) ⌝ }
-    ensures sizes { λ _. ⌜ now (sizes .exit)
-        ≡ sizesAfter (length (now (sizes .entry))) (length (now (weights .entry))) (now (text .entry)) ⌝ }
-    ensures weights { λ _. ⌜ now (weights .exit)
-        ≡ weightsAfter (length (now (sizes .entry))) (length (now (weights .entry))) (now (text .entry)) ⌝ }
+    ensures { λ r. ⌜ ReadInto (length (now (sizes .entry))) (length (now (weights .entry))) (now (text .entry)) r
+        (now (sizes .exit)) (now (weights .exit)) ⌝ }
 {
+    let number = length_tests(sizes.len(), weights.len(), text.len());
     clear(sizes);
     clear(weights);
-    if sizes.len() != 16 {
-        return Read::Refused {
-            number: 18,
-            line: 0,
-        };
-    }
-    if weights.len() != 16384 {
-        return Read::Refused {
-            number: 18,
-            line: 0,
-        };
-    }
-    if 65536 < text.len() {
-        return Read::Refused {
-            number: 13,
-            line: 0,
-        };
+    if number != 0 {
+        return refused(number, 0);
     }
     read_within(text, sizes, weights)
 }

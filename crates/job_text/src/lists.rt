@@ -1,9 +1,9 @@
 // The line that opens a list, and the brackets that close a job and the list.
 ghost use mathlib.Core.Path.{_≡_};
-ghost use Prim.Native.Nat.{ℕ};
 ghost use Rattle.job_form.specs.Forms.{list, close};
-ghost use Rattle.job_text.specs.Steps.{Progress, listTests, listEndTests, dueAfterClose, step};
-ghost use Rattle.job_text.specs.States.{stateOf, nextOf};
+ghost use Rattle.job_text.specs.Steps.{listTests, listEndTests, dueAfterClose};
+ghost use Rattle.job_text.specs.inner.Tested.{Tested};
+ghost use Rattle.job_text.specs.inner.Stepped.{Stepped};
 use crate::state::Due;
 use crate::state::Next;
 use crate::state::State;
@@ -11,7 +11,7 @@ use crate::state::for_due;
 use job_form::Token;
 
 fn list_tests(order: Token, algebra: Token) -> u16
-    ensures { λ r. ⌜ r ≡ listTests order algebra ⌝ }
+    ensures { λ r. ⌜ Tested (listTests order algebra) r ⌝ }
 {
     if !order.is_numeral() {
         return 14;
@@ -33,7 +33,7 @@ fn list_tests(order: Token, algebra: Token) -> u16
 }
 
 pub fn list_step(s: State, order: Token, algebra: Token) -> Next
-    ensures { λ r. ⌜ ((n : ℕ) (p : Progress) → s ≡ stateOf n p → r ≡ nextOf n (step p (list order algebra))) ⌝ }
+    ensures { λ r. ⌜ Stepped s (list order algebra) r ⌝ }
 {
     let due = s.due;
     let number = for_due(due, list_tests(order, algebra), 14, 14, 14);
@@ -52,9 +52,12 @@ pub fn list_step(s: State, order: Token, algebra: Token) -> Next
 }
 
 fn list_end_tests(jobs: u16) -> u16
-    ensures { λ r. ⌜ r ≡ listEndTests jobs ⌝ }
+    ensures { λ r. ⌜ Tested (listEndTests jobs) r ⌝ }
 {
-    if jobs == 0 { 7 } else { 0 }
+    if jobs == 0 {
+        return 7;
+    }
+    0
 }
 
 fn due_after_close(due: Due) -> Due
@@ -70,7 +73,7 @@ fn due_after_close(due: Due) -> Due
 }
 
 pub fn close_step(s: State) -> Next
-    ensures { λ r. ⌜ ((n : ℕ) (p : Progress) → s ≡ stateOf n p → r ≡ nextOf n (step p close)) ⌝ }
+    ensures { λ r. ⌜ Stepped s close r ⌝ }
 {
     let due = s.due;
     let number = for_due(due, 14, list_end_tests(s.jobs), 14, 0);

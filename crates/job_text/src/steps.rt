@@ -1,25 +1,21 @@
 // What one line does to the state and the buffers.
-ghost use mathlib.Core.Path.{_≡_};
-ghost use Prim.Native.Nat.{ℕ};
-ghost use Rattle.job_form.specs.Pieces.{parts};
-ghost use Rattle.job_form.specs.Forms.{unknown, formOf};
-ghost use Rattle.job_text.specs.Steps.{Progress, step};
-ghost use Rattle.job_text.specs.States.{stateOf, nextOf, Kept, Went};
+ghost use Rattle.job_form.specs.Forms.{unknown};
+ghost use Rattle.job_text.specs.inner.Stepped.{Stepped, Advanced};
 use crate::jobs::job_step;
 use crate::lists::close_step;
 use crate::lists::list_step;
-use crate::rows::Row;
-use crate::rows::Tally;
-use crate::rows::read_row;
 use crate::rows::row_step;
 use crate::state::Next;
 use crate::state::State;
 use crate::state::for_due;
 use job_form::Line;
+use job_form::Row;
+use job_form::Tally;
 use job_form::read_line;
+use job_form::read_row;
 
 fn unknown_step(s: State) -> Next
-    ensures { λ r. ⌜ ((n : ℕ) (p : Progress) → s ≡ stateOf n p → r ≡ nextOf n (step p unknown)) ⌝ }
+    ensures { λ r. ⌜ Stepped s unknown r ⌝ }
 {
     let due = s.due;
     Next::Stop(for_due(due, 14, 14, 14, 14))
@@ -27,7 +23,7 @@ fn unknown_step(s: State) -> Next
 
 // The step of a line, with the buffers after it where it is accepted.
 pub fn advance(s: State, line: &[u8], sizes: &mut [u16], weights: &mut [u16]) -> Next
-    ensures { λ r. ⌜ ((p : Progress) → Kept p s (now (sizes .entry)) (now (weights .entry)) → Went (step p (formOf (parts (now (line .entry))))) r (now (sizes .exit)) (now (weights .exit))) ⌝ }
+    ensures { λ r. ⌜ Advanced (now (line .entry)) s (now (sizes .entry)) (now (weights .entry)) r (now (sizes .exit)) (now (weights .exit)) ⌝ }
 {
     let algebra = s.algebra;
     let at = s.at;

@@ -1,11 +1,11 @@
 -- A test over a list: what its answer says of each word, and a walk that makes it.
-use Prim.Native.Nat.{ℕ, zero, suc, _+_, _<_, _≤_}
+use Prim.Native.Nat.{ℕ, zero, suc, _+_, _<_, _≤_, zero-le}
 use native.Mathlib.Nat.{not-suc-le-zero}
 use native.Mathlib.Numerals.{add-one}
 use native.Mathlib.Omega.{arith}
-use mathlib.Core.Path.{_≡_, refl, _∙_}
+use mathlib.Core.Path.{_≡_, refl, sym, _∙_}
 use mathlib.Core.List.{List, [], _∷_}
-use mathlib.Core.Bool.{Bool, true, false, true≢false, _||_}
+use mathlib.Core.Bool.{Bool, true, false, true≢false, _||_, _&&_}
 use lib.ListN.{length, getD, drop, drop-of-length-le}
 use lib.Seq.{drop-cons}
 use Rattle.memory.specs.Lists.{any}
@@ -13,6 +13,10 @@ use Rattle.memory.specs.Lists.{any}
 pub both-false : (b c : Bool) → (b || c) ≡ false → (b ≡ false) × (c ≡ false)
 both-false true c e = absurd (true≢false e)
 both-false false c e = (refl, e)
+
+pub both-true : (b c : Bool) → (b && c) ≡ true → (b ≡ true) × (c ≡ true)
+both-true true c e = (refl, e)
+both-true false c e = absurd (true≢false (sym e))
 
 or-assoc : (a b c : Bool) → (a || b || c) ≡ (a || (b || c))
 or-assoc true b c = refl
@@ -35,12 +39,28 @@ module _ (test : ℕ → Bool) where
   any-none (x ∷ l) e (suc p) h = any-none l (both-false (test x) (any test l) e .1) p (omega arith)
 
   -- A walk that has found what it passed and has the rest before it: one word more, and the end.
-  pub any-more : (l : List ℕ) (p : ℕ) (found : Bool) → p < length l
+  any-more : (l : List ℕ) (p : ℕ) (found : Bool) → p < length l
       → (found || test (getD l p 0) || any test (drop (p + 1) l)) ≡ (found || any test (drop p l))
   unfolding any
   any-more l p found h =
       or-assoc found (test (getD l p 0)) (any test (drop (p + 1) l)) ∙ rw (drop-cons l p 0 h, add-one p)
 
-  pub any-end : (l : List ℕ) (p : ℕ) (found : Bool) → length l ≤ p → (found || any test (drop p l)) ≡ found
+  any-end : (l : List ℕ) (p : ℕ) (found : Bool) → length l ≤ p → (found || any test (drop p l)) ≡ found
   unfolding any
   any-end l p found h = rw (drop-of-length-le l h) (or-false found)
+
+-- The loop that looks through a list, where it has come to word p: `found` tells of the words passed.
+pub record Looking (test : ℕ → Bool) (l : List ℕ) (p : ℕ) (found : Bool) : Type 0 where
+  pub count : p ≤ length l
+  pub seen : (found || any test (drop p l)) ≡ any test l
+
+module _ {test : ℕ → Bool} {l : List ℕ} where
+  pub look-begins : Looking test l 0 false
+  look-begins = record { count = zero-le; seen = refl }
+
+  module _ {p : ℕ} {found : Bool} (c : Looking test l p found) where
+    pub look-goes-on : {found′ : Bool} → p < length l → found′ ≡ (found || test (getD l p 0)) → Looking test l (p + 1) found′
+    look-goes-on h e = record { count = omega arith; seen = rw e (any-more test l p found h ∙ c .seen) }
+
+    pub look-ends : length l ≤ p → found ≡ any test l
+    look-ends h = sym (any-end test l p found h) ∙ c .seen

@@ -1,4 +1,5 @@
 pub mod Any
+pub mod Geometry
 pub mod ListOf
 pub mod Part
 pub mod Walk

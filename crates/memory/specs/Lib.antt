@@ -1,3 +1,2 @@
-pub mod Ascii
 pub mod Lists
 pub mod Walked

@@ -1,10 +1,16 @@
--- A loop that goes through a memory from the front and gives each word p the value f p of its old one: what holds after m words.
+-- A loop that goes through a part of a memory and gives each word j the value f j of its old one: what holds after it.
 use Prim.Native.Nat.{ℕ, _<_, _≤_}
 use mathlib.Core.Path.{_≡_}
 use mathlib.Core.List.{List}
 use lib.ListN.{length, getD}
 
-pub record Walked (f : ℕ → ℕ → ℕ) (old : List ℕ) (m : ℕ) (l : List ℕ) : Type 0 where
-  pub size : length l ≡ length old
-  pub done : (p : ℕ) → p < m → getD l p 0 ≡ f p (getD old p 0)
-  pub rest : (p : ℕ) → m ≤ p → getD l p 0 ≡ getD old p 0
+-- Each word j with from ≤ j < to is f j of the old one, the others are as they were.
+pub record Spanned (f : ℕ → ℕ → ℕ) (old : List ℕ) (from to : ℕ) (new : List ℕ) : Type 0 where
+  pub size : length new ≡ length old
+  pub inside : (j : ℕ) → from ≤ j → j < to → getD new j 0 ≡ f j (getD old j 0)
+  pub before : (j : ℕ) → j < from → getD new j 0 ≡ getD old j 0
+  pub after : (j : ℕ) → to ≤ j → getD new j 0 ≡ getD old j 0
+
+-- The same from the front, after m words.
+abbrev pub Walked : (ℕ → ℕ → ℕ) → List ℕ → ℕ → List ℕ → Type 0
+Walked f old m l = Spanned f old 0 m l

@@ -2,36 +2,36 @@
 -- lengths double."
 use Prim.Native.Nat.{ℕ, _+_, _*_, _/_, _%_}
 use mathlib.Core.List.{List, [], _∷_}
-use mathlib.Core.Bool.{cond, not}
+use mathlib.Core.Bool.{Bool, cond}
 use lib.ListN.{length}
 use lib.Dec.{eqb}
-use Rattle.semiring.specs.Algebra.{topOf}
+use Rattle.semiring.specs.declared.Algebra.{Algebra}
 use Rattle.semiring.specs.declared.Named.{Named}
 use Rattle.semiring.specs.declared.Named.the-variants.{Known, Unknown}
 use Rattle.closure.specs.Elimination.{eliminated}
-use Rattle.closure.specs.Tests.{refuse, outside, anyAbove}
+use Rattle.refusals.specs.Tests.{first}
+use Rattle.closure.specs.Tests.{eliminationTableOf}
 
 -- The words of a memory of bytes. An odd byte at the end is no word.
-unfoldable pub wordsOf : List ℕ → List ℕ
-wordsOf [] = []
-wordsOf (low ∷ []) = []
-wordsOf (low ∷ high ∷ bytes) = (low + 256 * high) ∷ wordsOf bytes
+unfoldable pub decoded : List ℕ → List ℕ
+decoded [] = []
+decoded (low ∷ []) = []
+decoded (low ∷ high ∷ bytes) = (low + 256 * high) ∷ decoded bytes
 
 -- The bytes of a memory of words.
-unfoldable pub bytesOf : List ℕ → List ℕ
-bytesOf [] = []
-bytesOf (word ∷ words) = (word % 256) ∷ (word / 256) ∷ bytesOf words
+unfoldable pub encoded : List ℕ → List ℕ
+encoded [] = []
+encoded (word ∷ words) = (word % 256) ∷ (word / 256) ∷ encoded words
 
--- "1 algebra unknown; 2 size; 3 weights not n² words; 4 result not n² words; 5 a reach word above 1, diagonal too"
+-- The elimination's tests, where "wanted lengths double".
+abbrev pub hostTable : Algebra → ℕ → List ℕ → List ℕ → List (Bool × ℕ)
+hostTable a n w r = eliminationTableOf a n (2 * (n * n)) (length w) (length r) (decoded w)
+
 abbrev pub hostTests : Named → ℕ → List ℕ → List ℕ → ℕ
 hostTests Unknown n w r = 1
-hostTests (Known a) n w r =
-    refuse (outside 1 128 n) 2
-    (refuse (not (eqb (length w) (2 * (n * n)))) 3
-    (refuse (not (eqb (length r) (2 * (n * n)))) 4
-    (refuse (anyAbove (topOf a) (wordsOf w)) 5
-    0)))
+hostTests (Known a) n w r = first 0 (hostTable a n w r)
 
+-- "Memory stays as it was" at a refusal.
 abbrev pub hostAfter : Named → ℕ → List ℕ → List ℕ → List ℕ
 hostAfter Unknown n w r = r
-hostAfter (Known a) n w r = cond (eqb (hostTests (Known a) n w r) 0) (bytesOf (eliminated a n (wordsOf w))) r
+hostAfter (Known a) n w r = cond (eqb (hostTests (Known a) n w r) 0) (encoded (eliminated a n (decoded w))) r

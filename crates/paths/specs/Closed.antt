@@ -3,10 +3,10 @@ use Prim.Native.Nat.{ℕ}
 use Rattle.paths.specs.declared.Closed.{Closed}
 use Rattle.paths.specs.declared.Closed.the-variants.{Done, AlgebraUnknown, SizeOutside, WeightsLength, ResultLength, WordAbove}
 
-abbrev pub numberOf : Closed → ℕ
-numberOf Done = 0
-numberOf AlgebraUnknown = 1
-numberOf SizeOutside = 2
-numberOf WeightsLength = 3
-numberOf ResultLength = 4
-numberOf WordAbove = 5
+abbrev pub closedNumber : Closed → ℕ
+closedNumber Done = 0
+closedNumber AlgebraUnknown = 1
+closedNumber SizeOutside = 2
+closedNumber WeightsLength = 3
+closedNumber ResultLength = 4
+closedNumber WordAbove = 5

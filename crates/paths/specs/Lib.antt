@@ -1,3 +1,6 @@
 pub mod Bytes
 pub mod Closed
-pub mod Room
+pub mod Eliminated
+pub mod EliminatedBytes
+pub mod inner
+pub mod claims

@@ -2,7 +2,7 @@
 ghost use mathlib.Core.Path.{_≡_};
 ghost use Prim.Native.Nat.{_*_, _<_};
 ghost use lib.ListN.{length};
-ghost use Rattle.paths.specs.Bytes.{wordsOf, bytesOf};
+ghost use Rattle.paths.specs.Bytes.{decoded, encoded};
 
 fn wide(byte: u8) -> u16
     ensures { λ r. ⌜ (r ≡ byte) × (r < 256) ⌝ }
@@ -13,7 +13,7 @@ fn wide(byte: u8) -> u16
 // The words of the bytes.
 pub fn decode(bytes: &[u8], words: &mut [u16])
     requires { ⌜ length (now bytes) ≡ 2 * length (now words) ⌝ }
-    ensures { λ _. ⌜ now (words .exit) ≡ wordsOf (now (bytes .entry)) ⌝ }
+    ensures { λ _. ⌜ now (words .exit) ≡ decoded (now (bytes .entry)) ⌝ }
 {
     let mut p = 0;
     while p < words.len() {
@@ -25,7 +25,7 @@ pub fn decode(bytes: &[u8], words: &mut [u16])
 // The bytes of the words.
 pub fn encode(words: &[u16], bytes: &mut [u8])
     requires { ⌜ length (now bytes) ≡ 2 * length (now words) ⌝ }
-    ensures { λ _. ⌜ now (bytes .exit) ≡ bytesOf (now (words .entry)) ⌝ }
+    ensures { λ _. ⌜ now (bytes .exit) ≡ encoded (now (words .entry)) ⌝ }
 {
     let mut p = 0;
     while p < words.len() {

@@ -1,11 +1,9 @@
 // The elimination for a host in C: two bytes a word, low byte first. The words lie in arrays of this call, the smallest of
 // three sizes that holds the table, since an array is cleared when it is made.
 ghost use mathlib.Core.Path.{_≡_};
-ghost use Prim.Native.Nat.{_*_};
 ghost use lib.ListN.{length};
-ghost use Rattle.semiring.specs.Named.{namedOf};
-ghost use Rattle.paths.specs.Bytes.{hostTests, hostAfter};
-ghost use Rattle.paths.specs.Room.{Fit, Lent};
+ghost use Rattle.paths.specs.EliminatedBytes.{EliminatedBytes};
+ghost use Rattle.paths.specs.inner.Room.{Fit, Lent};
 use crate::bytes::decode;
 use crate::bytes::encode;
 use crate::eliminate;
@@ -41,8 +39,7 @@ fn in_room(
     table: &mut [u16],
 ) -> u32
     requires { ⌜ Lent size (now weights) (now result) (now words) (now table) ⌝ }
-    ensures outcome { λ r. ⌜ r ≡ hostTests (namedOf algebra) size (now (weights .entry)) (now (result .entry)) ⌝ }
-    ensures memory { λ _. ⌜ now (result .exit) ≡ hostAfter (namedOf algebra) size (now (weights .entry)) (now (result .entry)) ⌝ }
+    ensures { λ r. ⌜ EliminatedBytes r algebra size (now (weights .entry)) (now (result .entry)) (now (result .exit)) ⌝ }
 {
     decode(weights, words);
     let answer = number(eliminate(algebra, size, words, table));
@@ -55,8 +52,7 @@ fn in_room(
 
 fn in_small_room(algebra: u32, size: usize, weights: &[u8], result: &mut [u8]) -> u32
     requires { ⌜ Fit size 16 (now weights) (now result) ⌝ }
-    ensures outcome { λ r. ⌜ r ≡ hostTests (namedOf algebra) size (now (weights .entry)) (now (result .entry)) ⌝ }
-    ensures memory { λ _. ⌜ now (result .exit) ≡ hostAfter (namedOf algebra) size (now (weights .entry)) (now (result .entry)) ⌝ }
+    ensures { λ r. ⌜ EliminatedBytes r algebra size (now (weights .entry)) (now (result .entry)) (now (result .exit)) ⌝ }
 {
     let mut words = small_room();
     let mut table = small_room();
@@ -73,8 +69,7 @@ fn in_small_room(algebra: u32, size: usize, weights: &[u8], result: &mut [u8]) -
 
 fn in_middle_room(algebra: u32, size: usize, weights: &[u8], result: &mut [u8]) -> u32
     requires { ⌜ Fit size 64 (now weights) (now result) ⌝ }
-    ensures outcome { λ r. ⌜ r ≡ hostTests (namedOf algebra) size (now (weights .entry)) (now (result .entry)) ⌝ }
-    ensures memory { λ _. ⌜ now (result .exit) ≡ hostAfter (namedOf algebra) size (now (weights .entry)) (now (result .entry)) ⌝ }
+    ensures { λ r. ⌜ EliminatedBytes r algebra size (now (weights .entry)) (now (result .entry)) (now (result .exit)) ⌝ }
 {
     let mut words = middle_room();
     let mut table = middle_room();
@@ -91,8 +86,7 @@ fn in_middle_room(algebra: u32, size: usize, weights: &[u8], result: &mut [u8]) 
 
 fn in_large_room(algebra: u32, size: usize, weights: &[u8], result: &mut [u8]) -> u32
     requires { ⌜ Fit size 128 (now weights) (now result) ⌝ }
-    ensures outcome { λ r. ⌜ r ≡ hostTests (namedOf algebra) size (now (weights .entry)) (now (result .entry)) ⌝ }
-    ensures memory { λ _. ⌜ now (result .exit) ≡ hostAfter (namedOf algebra) size (now (weights .entry)) (now (result .entry)) ⌝ }
+    ensures { λ r. ⌜ EliminatedBytes r algebra size (now (weights .entry)) (now (result .entry)) (now (result .exit)) ⌝ }
 {
     let mut words = large_room();
     let mut table = large_room();
@@ -115,8 +109,7 @@ pub extern "C" fn paths_eliminate(
     weights: &[u8],
     result: &mut [u8],
 ) -> u32
-    ensures outcome { λ r. ⌜ r ≡ hostTests (namedOf algebra) size (now (weights .entry)) (now (result .entry)) ⌝ }
-    ensures memory { λ _. ⌜ now (result .exit) ≡ hostAfter (namedOf algebra) size (now (weights .entry)) (now (result .entry)) ⌝ }
+    ensures { λ r. ⌜ EliminatedBytes r algebra size (now (weights .entry)) (now (result .entry)) (now (result .exit)) ⌝ }
 {
     let Named::Known(_) = from_number(algebra) else {
         return 1;

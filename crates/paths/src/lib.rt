@@ -1,18 +1,17 @@
 // The elimination as a call on words, and for a host in C on bytes.
 ghost use mathlib.Core.Path.{_≡_};
-ghost use Rattle.semiring.specs.Named.{namedOf};
-ghost use Rattle.closure.specs.Tests.{eliminationTests, resultAfter};
-ghost use Rattle.paths.specs.Closed.{numberOf};
+ghost use Rattle.paths.specs.Eliminated.{Eliminated};
+ghost use Rattle.paths.specs.Closed.{closedNumber};
 
 mod bytes;
 mod host;
 
 use elimination::close;
-use elimination::has_word_above;
 use elimination::lay_out;
 pub use host::paths_eliminate;
 use semiring::Named;
 use semiring::from_number;
+use semiring::has_word_above;
 
 // What a call of the elimination answers: that it closed the table, or why it turned back.
 pub enum Closed {
@@ -26,8 +25,7 @@ pub enum Closed {
 
 // The elimination of a table of size by size weights, into the result. A refusal leaves the result as it was.
 pub fn eliminate(algebra: u32, size: usize, weights: &[u16], result: &mut [u16]) -> Closed
-    ensures outcome { λ r. ⌜ numberOf r ≡ eliminationTests (namedOf algebra) size (now (weights .entry)) (now (result .entry)) ⌝ }
-    ensures memory { λ _. ⌜ now (result .exit) ≡ resultAfter (namedOf algebra) size (now (weights .entry)) (now (result .entry)) ⌝ }
+    ensures { λ r. ⌜ Eliminated r algebra size (now (weights .entry)) (now (result .entry)) (now (result .exit)) ⌝ }
 {
     let Named::Known(a) = from_number(algebra) else {
         return Closed::AlgebraUnknown;
@@ -54,7 +52,7 @@ pub fn eliminate(algebra: u32, size: usize, weights: &[u16], result: &mut [u16])
 
 // The number of document 01 for an answer, 0 where the call was accepted.
 pub fn number(closed: Closed) -> u32
-    ensures { λ r. ⌜ r ≡ numberOf closed ⌝ }
+    ensures { λ r. ⌜ r ≡ closedNumber closed ⌝ }
 {
     match closed {
         Closed::Done => 0,

@@ -4,7 +4,7 @@ use native.Mathlib.Omega.{arith}
 use native.Mathlib.Decide.{decLe}
 use mathlib.Core.Path.{_≡_}
 use mathlib.Core.Logic.{_⊎_, inl, inr}
-use Rattle.semiring.specs.Laws.{Laws, Picks}
+use Rattle.semiring.specs.claims.Laws.{Laws, Picks}
 use Rattle.semiring.specs.declared.Algebra.the-variants.{Reach, Distance, Steepest}
 
 pub laws : Laws

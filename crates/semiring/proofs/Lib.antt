@@ -1,2 +1,4 @@
 pub mod Laws
 pub mod Order
+pub mod Above
+pub mod Numbers

@@ -2,23 +2,24 @@
 use mathlib.Core.Path.{refl}
 use Rattle.memory.specs.Lists.{listOf, any}
 use Rattle.closure.specs.Elimination.{passes, closure, eliminated}
-use Rattle.systolic.specs.Jobs.{offset}
+use Rattle.job_list.specs.Jobs.{offset}
 use Rattle.systolic.specs.Tick.{cellAfter, planesAfter, emitted, emittedRows, ticked, ticks}
 use Rattle.systolic.specs.Run.{ranOn, refusedRun, ranBy}
-use Rattle.systolic.specs.Demand.{runs}
-use Rattle.job_form.specs.Pieces.{cut, lines, placed, parts}
-use Rattle.memory.specs.Ascii.{decimal}
-use Rattle.job_form.specs.Tokens.{digits, tokenOf}
-use Rattle.job_form.specs.Forms.{words, headOf, formOf}
+use Rattle.systolic.specs.claims.Demand.{runs}
+use Rattle.text.specs.Pieces.{cut, lines, placed, parts}
+use Rattle.text.specs.Numeral.{decimal, digits, numeral}
+use Rattle.job_form.specs.Tokens.{name, tokenOf}
+use Rattle.job_form.specs.Forms.{words, opening, headOf, formOf}
 use Rattle.job_text.specs.Steps.{step}
 use Rattle.job_text.specs.Reading.{follow, readingOf}
-use Rattle.printing.specs.Joined.{joined}
-use Rattle.printing.specs.Numeral.{numeral}
+use Rattle.text.specs.Joined.{joined}
 use Rattle.sheet.specs.Lines.{sheet}
-use Rattle.sheet.specs.Cards.{links3, reach3, long3, last3, BenchCards}
+use Rattle.sheet.specs.claims.Cards.{links3, reach3, long3, last3, BenchCards}
 
 pub cards : BenchCards
-unfolding listOf any passes closure eliminated offset cellAfter planesAfter emitted emittedRows ticked ticks ranOn refusedRun ranBy runs cut lines placed parts digits decimal tokenOf words headOf formOf step follow readingOf joined numeral sheet links3 reach3 long3 last3
+unfolding listOf any passes closure eliminated offset cellAfter planesAfter emitted emittedRows ticked ticks ranOn refusedRun ranBy runs cut
+    lines placed parts digits decimal name tokenOf words opening headOf formOf step follow readingOf joined numeral sheet links3 reach3
+    long3 last3
 cards = record {
   B1 = refl;
   B2 = refl;

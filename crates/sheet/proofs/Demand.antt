@@ -10,24 +10,22 @@ use borrow.Author.Tests.{le-ltb}
 use Rattle.semiring.specs.declared.Algebra.{Algebra}
 use Rattle.semiring.specs.Named.{numberOf}
 use Rattle.closure.proofs.Demand.{closure-best}
-use Rattle.systolic.specs.Jobs.{Jobs, count, size, wordsOf, jobWeights}
-use Rattle.systolic.specs.State.{total}
-use Rattle.systolic.specs.Start.{started}
+use Rattle.job_list.specs.Jobs.{Jobs, count, size, wordsOf, jobWeights, jobsOf, Entry}
+use Rattle.systolic.specs.State.{stateLength, scratchLength, total}
 use Rattle.systolic.specs.Run.{Ran}
-use Rattle.systolic.specs.Demand.{Runs, runs, leaves, jobsOf}
-use Rattle.systolic.proofs.Padding.{Fit, job-words}
-use Rattle.systolic.proofs.Started.{started-fit}
-use Rattle.systolic.proofs.Demand.{started-claim}
+use Rattle.systolic.specs.claims.Demand.{Runs, runs}
+use Rattle.systolic.specs.Tick.{leaves}
+use Rattle.systolic.proofs.Demand.{start-claim}
 use Rattle.systolic.proofs.Corollaries.{past-word}
-use Rattle.job_text.specs.Whole.{Accepted}
+use Rattle.job_list.specs.Fits.{ListAccepted}
 use Rattle.job_text.proofs.Whole.{whole}
-use Rattle.printing.specs.Joined.{joined}
-use Rattle.printing.proofs.Joined.{joined-same}
+use Rattle.text.specs.Joined.{joined}
+use Rattle.text.proofs.Joined.{joined-same}
 use Rattle.sheet.specs.Lines.{Words, jobsLine, entryLine, rowLines, sheet}
-use Rattle.sheet.specs.Sheet.{wholeRun, resultWords, printed}
-use Rattle.sheet.specs.Demand.{closureWords, Entry, Demand-sheet}
+use Rattle.sheet.specs.Sheet.{begun, wholeRun, resultWords, printed}
+use Rattle.sheet.specs.claims.Demand.{closureWords, Demand-sheet}
 use Rattle.sheet.proofs.Rows.{row-empty, row-line}
-use Rattle.sheet.proofs.Run.{named, accepted-started, whole-made}
+use Rattle.sheet.proofs.Run.{named, begun-tests, whole-made}
 
 -- A sheet reads no words but those of the jobs' entries.
 module _ (J : Jobs) (word word′ : Words) (same : (q i k : ℕ) → Entry J q i k → word q i k ≡ word′ q i k) where
@@ -50,19 +48,16 @@ module _ (J : Jobs) (word word′ : Words) (same : (q i k : ℕ) → Entry J q i
       (λ q hq. joined-same (size J q) (entryLine J word t i q) (entryLine J word′ t i q) (λ k hk. entry-same t i q k hq hk)))))
 
 -- The whole run is a list of one run.
-module _ {a : Algebra} {order : ℕ} {sizes weights : List ℕ} (list : Accepted order a sizes weights) where
+module _ {a : Algebra} {order : ℕ} {sizes weights : List ℕ} (list : ListAccepted (jobsOf a order sizes weights)) where
   abbrev J : Jobs
   J = jobsOf a order sizes weights
-
-  fits : Fit J
-  fits = started-fit (accepted-started list)
 
   -- every entry leaves before the end
   pub tick-within : {q i k : ℕ} → Entry J q i k → leaves J q i k < total order (length sizes)
   tick-within {q} {i} {k} at =
-      let few : size J q ≤ order = fits .sizes q (at .job) in
+      let few : size J q ≤ order = list .fits .sizes-fit q (at .job) .1 in
       let below = mul-le-mul-left (4 * order) (at .job) in
-      omega (arith, at .row, at .column, list .order-least)
+      omega (arith, at .row, at .column, list .fits .ranged .least)
 
   -- what start left, and the results lent to the run
   abbrev zeros : List ℕ
@@ -70,21 +65,21 @@ module _ {a : Algebra} {order : ℕ} {sizes weights : List ℕ} (list : Accepted
 
   abbrev one : Runs
   one =
-      runs sizes weights (record { allowance = 65535; scratch = replicate (2 * (order * order)) 0 } ∷ [])
-      (started (numberOf a) order sizes) zeros
+      runs sizes weights (record { allowance = 65535; scratch = replicate (scratchLength order) 0 } ∷ [])
+      (begun a order sizes weights) zeros
 
   word-is : (q i k : ℕ) → Entry J q i k → resultWords J (wholeRun a order sizes weights) q i k ≡ closureWords J q i k
   unfolding runs
   word-is q i k at =
       past-word {J = J} {after = one}
-      (started-claim (accepted-started list) (numberOf a) (named a)
-      (record { allowance = 65535; scratch = replicate (2 * (order * order)) 0 } ∷ []) zeros)
+      (start-claim (numberOf a) order sizes weights (replicate (stateLength order) 0) (begun-tests list) list (named a)
+      (record { allowance = 65535; scratch = replicate (scratchLength order) 0 } ∷ []) zeros)
       (length-replicate {A = ℕ} (wordsOf sizes) 0)
       (record { job = at .job; row = at .row; column = at .column; tick = omega (arith, tick-within at, whole-made list) })
 
 pub demand-sheet : Demand-sheet
 demand-sheet text order a sizes weights e =
-    let list : Accepted order a sizes weights = whole 16 16384 text order a sizes weights e in
+    let list : ListAccepted (jobsOf a order sizes weights) = whole 16 16384 text order a sizes weights e in
     let J : Jobs = jobsOf a order sizes weights in
     let after : Ran = wholeRun a order sizes weights in
     record {
@@ -93,8 +88,8 @@ demand-sheet text order a sizes weights e =
           ∙ sheet-same J (resultWords J after) (closureWords J) (word-is list) (after .made)
           ∙ ap (sheet J (closureWords J)) (whole-made list);
       best = λ q i k at.
-          closure-best a (size J q) (jobWeights J q) (job-words (fits list) q) (at .row) (at .column);
+          closure-best a (size J q) (jobWeights J q) (list .words q) (at .row) (at .column);
       tick = λ q i k at. tick-within list at;
-      line = λ q i k at. row-line J (closureWords J) (leaves J q i k) i (fits list) at refl;
+      line = λ q i k at. row-line J (closureWords J) (leaves J q i k) i (list .fits) at refl;
       nothing = λ t i none. row-empty J (closureWords J) t i none;
     }

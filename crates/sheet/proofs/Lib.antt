@@ -1,8 +1,11 @@
 pub mod Cards
 pub mod Demand
 pub mod Leaving
+pub mod Memory
 pub mod Numbers
 pub mod Room
+pub mod Rounds
 pub mod Rows
 pub mod Run
 pub mod Text
+pub mod Words

@@ -3,39 +3,33 @@ use Prim.Native.Nat.{ℕ, zero, suc, _+_, _≤_}
 use native.Mathlib.Nat.{le-trans}
 use native.Mathlib.Omega.{arith}
 use mathlib.Core.Path.{_≡_, refl}
-use mathlib.Core.List.{List, [], _∷_, map}
-use mathlib.Core.Bool.{Bool, true, false, not}
+use mathlib.Core.List.{List, [], _∷_}
+use mathlib.Core.Bool.{Bool, true, false, cond}
 use lib.ListN.{length, length-map}
-use lib.Dec.{eqb, ltb, leb}
+use lib.Dec.{eqb, ltb}
 use borrow.Author.Tests.{ltb-false}
-use Rattle.memory.specs.Lists.{any}
 use Rattle.semiring.specs.Algebra.{topOf}
 use Rattle.semiring.specs.declared.Algebra.{Algebra}
 use Rattle.semiring.specs.declared.Algebra.the-variants.{Reach, Distance, Steepest}
-use Rattle.closure.specs.Elimination.{closure}
-use Rattle.closure.proofs.Links.{words-links}
-use Rattle.closure.proofs.Passes.{passes-word}
-use Rattle.systolic.specs.Jobs.{Jobs, size, jobWeights}
-use Rattle.systolic.specs.Demand.{jobsOf}
-use Rattle.systolic.proofs.Padding.{Fit, job-words}
-use Rattle.systolic.proofs.Started.{started-fit}
-use Rattle.closure.specs.Tests.{refuse, outside, anyAbove}
-use Rattle.job_form.specs.Pieces.{Piece, pieced, cut, bytesOf, lines, parts}
-use Rattle.job_form.specs.Tokens.{isNumeral, isOver, isName, valueOf}
+use Rattle.closure.proofs.Equations.{closure-word}
+use Rattle.job_list.specs.Jobs.{Jobs, size, jobWeights, jobsOf}
+use Rattle.systolic.specs.State.{total}
+use Rattle.systolic.specs.Tick.{leaves}
+use Rattle.systolic.proofs.Totals.{total-most}
+use Rattle.text.proofs.Numerals.{numerals}
+use Rattle.job_text.specs.declared.answer.Refusal.{Refusal}
+use Rattle.sheet.specs.claims.Demand.{closureWords}
+use Rattle.refusals.proofs.First.{first-most}
+use Rattle.text.specs.Pieces.{Piece, pieced, cut, bytesOf, lines, parts}
 use Rattle.job_form.specs.Forms.{Form, list, job, row, close, skipped, unknown, formOf}
 use Rattle.job_text.specs.declared.state.Due.{Due}
 use Rattle.job_text.specs.declared.state.Due.the-variants as due
-use Rattle.job_text.specs.Steps.{Progress, forDue, overIn, noWord, wordOf, tests, after, Step, go, stop, start, proceed, step}
+use Rattle.job_text.specs.Steps.{Progress, forDue, listTests, jobTests, rowTests, listEndTests, tests, after, Step, go, stop, start, proceed, step}
 use Rattle.job_text.specs.Reading.{Reading, refused, accepted, ended, follow, unless, readingOf}
-use Rattle.job_text.specs.Whole.{Accepted}
+use Rattle.job_list.specs.Fits.{ListAccepted}
 use Rattle.job_text.proofs.Whole.{whole}
-use Rattle.sheet.specs.Numbers.{Refusal-numbers, List-numbers}
+use Rattle.sheet.specs.claims.Numbers.{Refusal-numbers, List-numbers}
 use Rattle.sheet.proofs.Demand.{tick-within}
-use Rattle.sheet.proofs.Run.{accepted-started, total-most}
-
-refuse-most : (b : Bool) {k rest : ℕ} → k ≤ 18 → rest ≤ 18 → refuse b k rest ≤ 18
-refuse-most true h g = h
-refuse-most false h g = g
 
 due-most : (d : Due) {l j r c : ℕ} → l ≤ 18 → j ≤ 18 → r ≤ 18 → c ≤ 18 → forDue d l j r c ≤ 18
 due-most due.List hl hj hr hc = hl
@@ -45,28 +39,12 @@ due-most due.Close hl hj hr hc = hc
 due-most due.Nothing hl hj hr hc = omega arith
 
 tests-most : (p : Progress) (f : Form) → tests p f ≤ 18
-tests-most p (list n a) =
-    due-most (p .due)
-    (refuse-most (not (isNumeral n)) (omega arith)
-    (refuse-most (not (isName a)) (omega arith)
-    (refuse-most (isOver n) (omega arith) (refuse-most (outside 1 32 (valueOf n)) (omega arith) (omega arith)))))
-    (omega arith) (omega arith) (omega arith)
+tests-most p (list n a) = due-most (p .due) (first-most 18 (listTests n a) refl) (omega arith) (omega arith) (omega arith)
 tests-most p (job n) =
-    due-most (p .due) (omega arith)
-    (refuse-most (not (isNumeral n)) (omega arith)
-    (refuse-most (isOver n) (omega arith)
-    (refuse-most (outside 1 (p .order) (valueOf n)) (omega arith)
-    (refuse-most (leb 16 (length (p .sizes))) (omega arith) (omega arith)))))
-    (omega arith) (omega arith)
+    due-most (p .due) (omega arith) (first-most 18 (jobTests (p .order) (length (p .sizes)) n) refl) (omega arith) (omega arith)
 tests-most p (row ts) =
-    due-most (p .due) (omega arith) (omega arith)
-    (refuse-most (any noWord ts) (omega arith)
-    (refuse-most (any (overIn (p .algebra)) ts) (omega arith)
-    (refuse-most (not (eqb (length ts) (p .size))) (omega arith)
-    (refuse-most (anyAbove (topOf (p .algebra)) (map (wordOf (p .algebra)) ts)) (omega arith) (omega arith)))))
-    (omega arith)
-tests-most p close =
-    due-most (p .due) (omega arith) (refuse-most (eqb (length (p .sizes)) 0) (omega arith) (omega arith)) (omega arith) (omega arith)
+    due-most (p .due) (omega arith) (omega arith) (first-most 18 (rowTests (p .algebra) (p .size) ts) refl) (omega arith)
+tests-most p close = due-most (p .due) (omega arith) (first-most 18 (listEndTests (length (p .sizes))) refl) (omega arith) (omega arith)
 tests-most p unknown = due-most (p .due) (omega arith) (omega arith) (omega arith) (omega arith)
 tests-most p skipped = omega arith
 
@@ -85,7 +63,7 @@ step-most p f = by (tests p f) (tests-most p f)
 
 -- a reading's refusal with at most n lines
 Most : ℕ → Reading → Type 0
-Most n (refused number line) = (number ≤ 18) × (line ≤ n)
+Most n (refused r) = (r .number ≤ 18) × (r .line ≤ n)
 Most n (accepted order a sizes weights) = Unit {0}
 
 ended-most : (d : Due) (n line : ℕ) (p : Progress) → line ≤ n → Most n (ended d line p)
@@ -122,14 +100,19 @@ reading-most : (text : List ℕ) → Most 65536 (readingOf 16 16384 text)
 unfolding readingOf Most StepMost
 reading-most text = by (ltb 65536 (length text)) refl
   where
-    by : (b : Bool) → ltb 65536 (length text) ≡ b → Most 65536 (unless (refuse b 13 0) (follow 0 (lines text) (go start)))
+    by : (b : Bool) → ltb 65536 (length text) ≡ b → Most 65536 (unless (cond b 13 0) (follow 0 (lines text) (go start)))
     by true e = (omega arith, omega arith)
     by false e =
         follow-most 65536 0 (lines text) (go start) tt (omega (arith, ltb-false 65536 (length text) e, lines-length text))
 
-pub refusal-numbers : Refusal-numbers
+small : (text : List ℕ) (r : Refusal) → readingOf 16 16384 text ≡ refused r → (r .number ≤ 18) × (r .line ≤ 65536)
 unfolding Most
-refusal-numbers text number line e = rw e at (reading-most text)
+small text r e = rw e at (reading-most text)
+
+pub refusal-numbers : Refusal-numbers
+refusal-numbers text r e =
+    let (number, line) = small text r e in
+    (numerals (r .number) (omega arith), numerals (r .line) (omega arith))
 
 top-most : (a : Algebra) → topOf a ≤ 65535
 top-most Reach = omega arith
@@ -137,21 +120,22 @@ top-most Distance = omega arith
 top-most Steepest = omega arith
 
 pub list-numbers : List-numbers
-unfolding closure
 list-numbers text order a sizes weights e =
-    let list : Accepted order a sizes weights = whole 16 16384 text order a sizes weights e in
+    let list : ListAccepted (jobsOf a order sizes weights) = whole 16 16384 text order a sizes weights e in
     let J : Jobs = jobsOf a order sizes weights in
-    let fit : Fit J = started-fit (accepted-started list) in
+    let within = list .fits .ranged in
+    let short = total-most (within .most) (within .few) in
     record {
-      jobs = list .few;
-      ticks = total-most list;
+      jobs = numerals (length sizes) (omega (arith, within .few));
+      ticks = numerals (total order (length sizes)) (omega (arith, short));
       places = λ q i k at.
-          let within : size J q ≤ order = fit .sizes q (at .job) in (
-            omega (arith, at .job, list .few),
-            omega (arith, at .row, list .order-most),
-            omega (arith, at .column, list .order-most),
+          let fits : size J q ≤ order = list .fits .sizes-fit q (at .job) .1 in (
+            numerals q (omega (arith, at .job, within .few)),
+            numerals i (omega (arith, at .row, within .most)),
+            numerals k (omega (arith, at .column, within .most)),
           );
-      tick = λ q i k at. omega (arith, tick-within list at, total-most list);
+      tick = λ q i k at. numerals (leaves J q i k) (omega (arith, tick-within list at, short));
       words = λ q i k at.
-          le-trans (passes-word (words-links a (size J q) (jobWeights J q) (job-words fit q)) (size J q) i k) (top-most a);
+          let word = le-trans (closure-word a (size J q) (jobWeights J q) (list .words q) i k) (top-most a) in
+          numerals (closureWords J q i k) (omega arith);
     }

@@ -1,32 +1,34 @@
 -- A bound on the length of every sheet.
-use Prim.Native.Nat.{ℕ, _*_, _<_, _≤_}
+use Prim.Native.Nat.{ℕ, _*_, _<_, _≤_, min}
 use native.Mathlib.Nat.{le-trans}
 use native.Mathlib.Omega.{arith}
 use native.Mathlib.Decide.{ℕ-discrete}
-use mathlib.Core.Path.{_≡_, refl}
-use mathlib.Core.List.{List, []}
+use mathlib.Core.Path.{_≡_, refl, _∙_}
+use mathlib.Core.List.{List, [], _++_}
 use mathlib.Core.Bool.{Bool, true, false, cond, _&&_, and-false}
-use lib.ListN.{length, length-append}
+use lib.ListN.{length, drop, length-append}
+use lib.Seq.{take-all}
 use lib.Dec.{eqb, ltb}
 use borrow.Author.Tests.{eq-eqb, ne-eqb}
-use Rattle.memory.specs.Ascii.{ascii}
+use Rattle.text.specs.Ascii.{ascii}
 use Rattle.semiring.specs.Algebra.{noneOf}
 use Rattle.semiring.specs.declared.Algebra.{Algebra}
 use Rattle.semiring.specs.declared.Algebra.the-variants.{Reach, Distance, Steepest}
-use Rattle.systolic.specs.Jobs.{Jobs, count, size}
-use Rattle.systolic.specs.Demand.{leaves, jobsOf}
-use Rattle.systolic.proofs.Started.{started-fit}
+use Rattle.job_list.specs.Jobs.{Jobs, count, size, jobsOf}
+use Rattle.systolic.specs.Tick.{leaves}
+use Rattle.systolic.proofs.Totals.{total-most}
 use Rattle.job_text.specs.Reading.{Reading, refused, accepted, readingOf}
-use Rattle.job_text.specs.Whole.{Accepted}
+use Rattle.job_list.specs.Fits.{ListFits, ListAccepted}
 use Rattle.job_text.proofs.Whole.{whole}
-use Rattle.printing.specs.Joined.{joined}
-use Rattle.printing.specs.Numeral.{shown}
-use Rattle.printing.proofs.Numerals.{numeral-length, numeral-most}
-use Rattle.printing.proofs.Lengths.{sum, joined-length, sum-below, joined-sums, sum-once}
+use Rattle.text.specs.Joined.{joined}
+use Rattle.text.specs.Page.{overwritten}
+use Rattle.text.specs.Numeral.{shown}
+use Rattle.text.proofs.Numerals.{numeral-length, numeral-most}
+use Rattle.text.proofs.Lengths.{sum, joined-length, sum-below, joined-sums, sum-once}
 use Rattle.sheet.specs.Lines.{Words, refusedLine, jobsLine, shownWord, outLine, entryLine, rowLines, sheet}
-use Rattle.sheet.specs.Sheet.{wholeRun, resultWords, printed}
-use Rattle.sheet.specs.Demand.{Room}
-use Rattle.sheet.proofs.Run.{accepted-started, total-most, whole-made}
+use Rattle.sheet.specs.Sheet.{wholeRun, resultWords, printed, sheetOf}
+use Rattle.sheet.specs.claims.Demand.{pageBytes, Room}
+use Rattle.sheet.proofs.Run.{whole-made}
 
 two-digits : (n : ℕ) → n < 100 → length (shown n) ≤ 2
 two-digits n h = numeral-length 5 2 n (omega arith) h
@@ -58,8 +60,13 @@ out-length a q i k t w hq hi hk ht =
     (omega (arith, two-digits q hq, two-digits i hi, two-digits k hk, four-digits t ht, word-length a w))
 
 -- The lines of jobs that fit an array of order at most 32.
-module _ (J : Jobs) (word : Words) (most : J .order ≤ 32) (few : count J ≤ 16) (fits : (q : ℕ) → q < count J → size J q ≤ J .order)
-    (ticks : ℕ) (short : ticks ≤ 2110) where
+module _ (J : Jobs) (word : Words) (list : ListFits J) (ticks : ℕ) (short : ticks ≤ 2110) where
+  order-most : J .order ≤ 32
+  order-most = list .ranged .most
+
+  size-most : (q : ℕ) → q < count J → size J q ≤ 32
+  size-most q h = let (least, most) = list .sizes-fit q h in omega (arith, order-most)
+
   entry-length : (t i q k : ℕ) → t < ticks → i < J .order → q < count J → k < size J q
       → length (entryLine J word t i q k) ≤ cond (eqb t (leaves J q i k)) 26 0
   entry-length t i q k ht hi hq hk = by (ℕ-discrete t (leaves J q i k)) (ltb i (size J q))
@@ -69,7 +76,8 @@ module _ (J : Jobs) (word : Words) (most : J .order ≤ 32) (few : count J ≤ 1
           ≤ cond (eqb t (leaves J q i k)) 26 0
       by (yes e) true =
           rw (eq-eqb t (leaves J q i k) e)
-          (out-length (J .algebra q) q i k t (word q i k) (omega arith) (omega arith) (omega (arith, fits q hq)) (omega arith))
+          (out-length (J .algebra q) q i k t (word q i k)
+          (omega (arith, list .ranged .few)) (omega (arith, order-most)) (omega (arith, size-most q hq)) (omega arith))
       by (yes e) false = rw (eq-eqb t (leaves J q i k) e) (omega arith)
       by (no e) b = rw (ne-eqb t (leaves J q i k) e, and-false b) (omega arith)
 
@@ -84,38 +92,49 @@ module _ (J : Jobs) (word : Words) (most : J .order ≤ 32) (few : count J ≤ 1
   job-sum : (i q : ℕ) → i < J .order → q < count J → sum ticks (λ t. length (joined (size J q) (entryLine J word t i q))) ≤ 32 * 26
   job-sum i q hi hq =
       le-trans (joined-sums ticks (size J q) (λ t. entryLine J word t i q) 26 (λ k hk. entry-sum i q k hi hq hk))
-      (omega (arith, fits q hq))
+      (omega (arith, size-most q hq))
 
   row-sum : (i : ℕ) → i < J .order → sum ticks (λ t. length (rowLines J word t i)) ≤ 16 * (32 * 26)
   row-sum i hi =
       le-trans
       (joined-sums ticks (count J) (λ t q. joined (size J q) (entryLine J word t i q)) (32 * 26) (λ q hq. job-sum i q hi hq))
-      (omega arith)
+      (omega (arith, list .ranged .few))
 
   lines-length : length (joined ticks (λ t. joined (J .order) (rowLines J word t))) ≤ 32 * (16 * (32 * 26))
   lines-length =
       rw (joined-length ticks (λ t. joined (J .order) (rowLines J word t)))
-      (le-trans (joined-sums ticks (J .order) (λ t. rowLines J word t) (16 * (32 * 26)) (λ i hi. row-sum i hi)) (omega arith))
+      (le-trans (joined-sums ticks (J .order) (λ t. rowLines J word t) (16 * (32 * 26)) (λ i hi. row-sum i hi))
+      (omega (arith, order-most)))
 
-  sheet-length : length (sheet J word ticks) ≤ 426005
+  sheet-length : length (sheet J word ticks) ≤ pageBytes
   unfolding sheet
   sheet-length =
       let lines : List ℕ = joined ticks (λ t. joined (J .order) (rowLines J word t)) in
       omega (
         arith,
         length-append (jobsLine (count J) ticks) lines,
-        jobs-length (count J) ticks (omega arith) (omega arith),
+        jobs-length (count J) ticks (omega (arith, list .ranged .few)) (omega arith),
         lines-length,
       )
 
-room-by : (text : List ℕ) (r : Reading) → readingOf 16 16384 text ≡ r → length (printed r) ≤ 426005
-room-by text (refused number line) e = omega (arith, refused-length number line)
+room-by : (text : List ℕ) (r : Reading) → readingOf 16 16384 text ≡ r → length (printed r) ≤ pageBytes
+room-by text (refused r) e = omega (arith, refused-length (r .number) (r .line))
 room-by text (accepted order a sizes weights) e =
-    let list : Accepted order a sizes weights = whole 16 16384 text order a sizes weights e in
+    let list : ListAccepted (jobsOf a order sizes weights) = whole 16 16384 text order a sizes weights e in
     let J : Jobs = jobsOf a order sizes weights in
     let after = wholeRun a order sizes weights in
-    sheet-length J (resultWords J after) (list .order-most) (list .few) (started-fit (accepted-started list) .sizes) (after .made)
-    (omega (arith, whole-made list, total-most list))
+    sheet-length J (resultWords J after) (list .fits) (after .made)
+    (omega (arith, whole-made list, total-most (list .fits .ranged .most) (list .fits .ranged .few)))
 
 pub room : Room
 room text = room-by text (readingOf 16 16384 text) refl
+
+-- What is printed on a page with that room: the whole sheet.
+module _ (text page : List ℕ) (long : length page ≡ pageBytes) {n : ℕ} (outcome : n ≡ min (length page) (length (sheetOf text))) where
+  pub whole-length : n ≡ length (sheetOf text)
+  whole-length = omega (arith, room text)
+
+  pub whole-page : {page′ : List ℕ} → page′ ≡ overwritten (sheetOf text) page → page′ ≡ sheetOf text ++ drop n page
+  whole-page memory =
+      let fits : length (sheetOf text) ≤ length page = omega (arith, room text) in
+      memory ∙ rw (whole-length, take-all (length page) (sheetOf text) fits)

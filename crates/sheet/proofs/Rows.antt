@@ -8,23 +8,22 @@ use mathlib.Core.Bool.{and-false}
 use lib.ListN.{getD}
 use lib.Dec.{ltb}
 use borrow.Author.Tests.{lt-ltb, le-ltb, eq-eqb, ne-eqb, le-leb, lt-leb}
-use Rattle.systolic.specs.Jobs.{Jobs, count, size}
-use Rattle.systolic.specs.Demand.{leaves}
-use Rattle.systolic.proofs.Digits.{same-digits}
-use Rattle.systolic.proofs.Padding.{Fit}
-use Rattle.printing.specs.Joined.{joined}
-use Rattle.printing.proofs.Joined.{joined-same, joined-less, joined-empty, joined-one}
+use Rattle.job_list.specs.Jobs.{Jobs, count, size, Entry}
+use Rattle.systolic.specs.Tick.{leaves}
+use Rattle.memory.proofs.Geometry.{same-digits}
+use Rattle.job_list.specs.Fits.{ListFits}
+use Rattle.text.specs.Joined.{joined}
+use Rattle.text.proofs.Joined.{joined-same, joined-less, joined-empty, joined-one}
 use Rattle.sheet.specs.Lines.{Words, outLine, entryLine, rowLines}
-use Rattle.sheet.specs.Demand.{Entry}
-use Rattle.sheet.specs.Leaving.{leavingLine}
+use Rattle.sheet.specs.inner.Leaving.{leavingLine}
 
 -- An entry's tick tells its job and the sum of its row and column.
-pub leaves-digits : {J : Jobs} → Fit J → {q d q′ i k : ℕ} → d < 4 * J .order → Entry J q′ i k
+pub leaves-digits : {J : Jobs} → ListFits J → {q d q′ i k : ℕ} → d < 4 * J .order → Entry J q′ i k
     → 4 * J .order * q + 4 * J .order - 1 + d ≡ leaves J q′ i k → (q ≡ q′) × (d ≡ i + k)
 leaves-digits {J} fits {q} {d} {q′} {i} {k} h at e =
-    let few : size J q′ ≤ J .order = fits .sizes q′ (at .job) in
+    let few : size J q′ ≤ J .order = fits .sizes-fit q′ (at .job) .1 in
     same-digits {n = 4 * J .order} {x = q} {y = d} {x′ = q′} {y′ = i + k} h (omega (arith, at .row, at .column))
-    (omega (arith, fits .least))
+    (omega (arith, fits .ranged .least))
 
 module _ (J : Jobs) (word : Words) (t i : ℕ) where
   entry-empty : (q k : ℕ) → (i < size J q → t ≡ leaves J q i k → ⊥) → entryLine J word t i q k ≡ []
@@ -41,7 +40,7 @@ module _ (J : Jobs) (word : Words) (t i : ℕ) where
       joined-empty (size J q) (entryLine J word t i q)
       (λ k hk. entry-empty q k (λ hi. none q k (record { job = hq; row = hi; column = hk }))))
 
-  pub row-line : Fit J → {q k : ℕ} → Entry J q i k → t ≡ leaves J q i k
+  pub row-line : ListFits J → {q k : ℕ} → Entry J q i k → t ≡ leaves J q i k
       → rowLines J word t i ≡ outLine (J .algebra q) q i k t (word q i k)
   row-line fits {q} {k} at e =
       joined-one (count J) (λ q′. joined (size J q′) (entryLine J word t i q′)) q (at .job)
@@ -56,28 +55,29 @@ module _ (J : Jobs) (word : Words) (t i : ℕ) where
     where
       once : (q′ k′ : ℕ) → Entry J q′ i k′ → t ≡ leaves J q′ i k′ → (q ≡ q′) × (i + k ≡ i + k′)
       once q′ k′ at′ f =
-          let few : size J q ≤ J .order = fits .sizes q (at .job) in
-          leaves-digits fits {q = q} {d = i + k} (omega (arith, at .row, at .column, fits .least)) at′ (omega arith)
+          let few : size J q ≤ J .order = fits .sizes-fit q (at .job) .1 in
+          leaves-digits fits {q = q} {d = i + k} (omega (arith, at .row, at .column, fits .ranged .least)) at′ (omega arith)
 
-module _ (J : Jobs) (word : Words) (fits : Fit J) (t : ℕ) where
-  pub tick-early : t + 1 < 4 * J .order → joined (J .order) (rowLines J word t) ≡ []
-  tick-early h = joined-empty (J .order) (rowLines J word t) (λ i hi. row-empty J word t i (λ q k at e. omega arith))
+module _ (J : Jobs) (word : Words) (fits : ListFits J) (t : ℕ) where
+  pub lines-early : t + 1 < 4 * J .order → joined (J .order) (rowLines J word t) ≡ []
+  lines-early h = joined-empty (J .order) (rowLines J word t) (λ i hi. row-empty J word t i (λ q k at e. omega arith))
 
   module _ (q d : ℕ) (h : d < 4 * J .order) (e : t ≡ 4 * J .order * q + 4 * J .order - 1 + d) where
-    pub tick-late : count J ≤ q → joined (J .order) (rowLines J word t) ≡ []
-    tick-late late =
+    pub lines-late : count J ≤ q → joined (J .order) (rowLines J word t) ≡ []
+    lines-late late =
         joined-empty (J .order) (rowLines J word t)
         (λ i hi.
         row-empty J word t i
         (λ q′ k at f. let same = leaves-digits fits {q = q} h at (sym e ∙ f) .0 in omega (arith, at .job)))
 
     -- the lines of the job whose entries leave
-    pub tick-now : q < count J → (part : List ℕ)
+    pub lines-now : q < count J → (part : List ℕ)
         → ((i k : ℕ) → i < size J q → k < size J q → getD part (i * size J q + k) 0 ≡ word q i k)
         → joined (J .order) (rowLines J word t)
         ≡ joined (size J q) (leavingLine (J .algebra q) (record { job = q; size = size J q; sum = d; tick = t }) part)
-    tick-now job part same =
-        joined-less (J .order) (size J q) (rowLines J word t) (fits .sizes q job)
+    unfolding leavingLine
+    lines-now job part same =
+        joined-less (J .order) (size J q) (rowLines J word t) (fits .sizes-fit q job .1)
         (λ i above below. row-empty J word t i (λ q′ k at f. outside i q′ k above at f))
         ∙ joined-same (size J q) (rowLines J word t) line (λ i hi. row i hi (decLt d i) (decLt (d - i) (size J q)))
       where

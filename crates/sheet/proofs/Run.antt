@@ -1,25 +1,27 @@
 -- A list that the reader accepted is started and run, and never refused.
-use Prim.Native.Nat.{ℕ, _+_, _-_, _*_, _≤_, min, zero-le}
-use native.Mathlib.Nat.{mul-le-mul}
+use Prim.Native.Nat.{ℕ, _+_, _-_, min, zero-le}
 use native.Mathlib.Omega.{arith}
 use mathlib.Core.Path.{_≡_, refl, sym, ap, _∙_}
 use mathlib.Core.Logic.{inl, inr}
 use mathlib.Core.List.{List, [], _∷_, _++_}
 use lib.ListN.{length, replicate, length-replicate}
-use borrow.Author.Tests.{le-ltb, eq-eqb}
+use borrow.Author.Tests.{eq-eqb}
 use denote.Enum.Declared.{tagOf}
 use types.Run.{OneOf}
+use mir.Syntax.{w32}
+use mir.Val.{Fits}
 use Rattle.semiring.specs.declared.Algebra.{Algebra}
 use Rattle.semiring.specs.declared.Algebra.the-variants.{Reach, Distance, Steepest}
 use Rattle.semiring.specs.declared.Named.the-variants.{Known}
 use Rattle.semiring.specs.Named.{namedOf, numberOf}
-use Rattle.systolic.specs.Jobs.{offset, wordsOf}
+use Rattle.job_list.specs.Fits.{ListAccepted}
+use Rattle.job_list.specs.Jobs.{wordsOf, jobsOf}
 use Rattle.systolic.specs.Tick.{ticks}
-use Rattle.systolic.specs.State.{stateLength, total}
+use Rattle.systolic.specs.State.{stateLength, scratchLength, total}
 use Rattle.systolic.specs.Start.{startTests, started, zeroPlanes, stateAfterStart}
 use Rattle.systolic.specs.Run.{Ran, ran}
-use Rattle.systolic.specs.Demand.{jobsOf}
-use Rattle.systolic.proofs.Started.{Started, sizes-fit}
+use Rattle.systolic.proofs.Totals.{total-most}
+use Rattle.job_list.proofs.Fits.{order-passes, count-passes, sizes-pass, words-pass}
 use Rattle.systolic.proofs.Demand.{zero-sized}
 use Rattle.systolic.proofs.Runs.{acceptedRun, run-accepted}
 use Rattle.array.specs.declared.starting.StartAnswer.{StartAnswer}
@@ -27,15 +29,17 @@ use Rattle.array.specs.declared.starting.StartAnswer.the-variants as start
 use Rattle.array.specs.declared.running.RunAnswer.{RunAnswer}
 use Rattle.array.specs.declared.running.RunAnswer.the-variants as run
 use Rattle.array.specs.StartAnswer.{startNumber}
+use Rattle.array.specs.StartLeft.{StartLeft}
 use Rattle.array.specs.RunAnswer.{runNumber, runMade, Answered}
 use Rattle.array.proofs.starting.StartAnswer
 use Rattle.array.proofs.running.RunAnswer
-use Rattle.job_text.specs.Whole.{squares, Accepted}
-use Rattle.printing.specs.Joined.{joined}
+use Rattle.text.specs.Joined.{joined}
+use Rattle.text.specs.inner.Put.{Put}
+use Rattle.text.proofs.Put.{_then_, put-as}
 use Rattle.sheet.specs.Lines.{jobsLine, sheet}
-use Rattle.sheet.specs.Sheet.{wholeRun, sheetFrom}
-use Rattle.sheet.specs.Leaving.{Printable, tickLines}
-use Rattle.sheet.specs.Lent.{Lent}
+use Rattle.sheet.specs.Sheet.{begun, wholeRun, sheetFrom}
+use Rattle.sheet.specs.inner.Leaving.{Printable, tickLines}
+use Rattle.sheet.specs.inner.Memory.{RunMemory}
 
 -- The number of an algebra names it.
 pub named : (a : Algebra) → namedOf (numberOf a) ≡ Known a
@@ -43,72 +47,58 @@ named Reach = refl
 named Distance = refl
 named Steepest = refl
 
--- The reader's sum of n² is the array's.
-pub squares-words : (sizes : List ℕ) → squares sizes ≡ wordsOf sizes
-unfolding squares offset
-squares-words [] = refl
-squares-words (n ∷ sizes) = ap (λ (m : ℕ). n * n + m) (squares-words sizes)
-
--- An answer of a run that was accepted and left what the whole run leaves.
-pub record RanWhole (answer : RunAnswer) (results : List ℕ) (whole : Ran) : Type 0 where
+-- The answer of a run that was accepted, and the results that it left: those of the whole run.
+record RanWhole (answer : RunAnswer) (results : List ℕ) (whole : Ran) : Type 0 where
   pub number : runNumber answer ≡ 0
   pub made : runMade answer ≡ whole .made
   pub words : results ≡ whole .results
 
-module _ {a : Algebra} {order : ℕ} {sizes weights : List ℕ} (list : Accepted order a sizes weights) where
-  pub words-fit : length weights ≡ wordsOf sizes
-  words-fit = list .words ∙ squares-words sizes
-
-  pub accepted-started : Started a order sizes weights
-  accepted-started = record {
-    order-inside = rw (le-ltb order 1 (list .order-least), le-ltb 32 order (list .order-most));
-    count-inside = rw (le-ltb (length sizes) 1 (list .some), le-ltb 16 (length sizes) (list .few));
-    sizes-inside = list .sizes-inside;
-    length-fits = words-fit;
-    none-above = list .none-above;
-  }
-
+module _ {a : Algebra} {order : ℕ} {sizes weights : List ℕ} (list : ListAccepted (jobsOf a order sizes weights)) where
   -- No test of start applies, so it leaves a started state.
-  pub start-tests : (state : List ℕ) → length state ≡ stateLength order → startTests (namedOf (numberOf a)) order sizes weights state ≡ 0
+  start-tests : (state : List ℕ) → length state ≡ stateLength order → startTests (namedOf (numberOf a)) order sizes weights state ≡ 0
   start-tests state fits =
-      let s = accepted-started in
       rw (
         named a,
-        s .order-inside,
-        s .count-inside,
-        s .sizes-inside,
-        eq-eqb (length weights) (wordsOf sizes) words-fit,
+        order-passes (list .fits),
+        count-passes (list .fits),
+        sizes-pass (list .fits),
+        eq-eqb (length weights) (wordsOf sizes) (list .weights-fit),
         eq-eqb (length state) (stateLength order) fits,
-        s .none-above,
+        words-pass list,
       )
 
-  pub start-leaves : (state : List ℕ) → length state ≡ stateLength order
+  start-leaves : (state : List ℕ) → length state ≡ stateLength order
       → stateAfterStart (numberOf a) order sizes weights state ≡ started (numberOf a) order sizes
   start-leaves state fits = rw (start-tests state fits)
 
-  pub total-most : total order (length sizes) ≤ 2110
-  total-most = omega (arith, mul-le-mul (list .order-most) (list .few), list .order-most)
+  -- the same of a state of zeros, from which the sheet's definition starts
+  pub begun-tests : startTests (namedOf (numberOf a)) order sizes weights (replicate (stateLength order) 0) ≡ 0
+  begun-tests = start-tests (replicate (stateLength order) 0) (length-replicate {A = ℕ} (stateLength order) 0)
+
+  begun-leaves : begun a order sizes weights ≡ started (numberOf a) order sizes
+  begun-leaves = start-leaves (replicate (stateLength order) 0) (length-replicate {A = ℕ} (stateLength order) 0)
 
   -- the run of a started list, whatever its scratch holds
-  one-run : (scratch results : List ℕ) → length scratch ≡ 2 * (order * order) → length results ≡ wordsOf sizes
-      → ran (started (numberOf a) order sizes) sizes weights 65535 scratch results
+  one-run : (scratch results : List ℕ) → length scratch ≡ scratchLength order → length results ≡ wordsOf sizes
+      → ran (begun a order sizes weights) sizes weights 65535 scratch results
       ≡ (let made = min 65535 (total order (length sizes) - 0) in
       acceptedRun order (numberOf a) (length sizes) (0 + made) made scratch
       (ticks (jobsOf a order sizes weights) 0 made (record { planes = zeroPlanes order; results = results })))
   one-run scratch results fits fits′ =
-      run-accepted accepted-started (numberOf a) (named a) 0 (zeroPlanes order) (zero-sized order) zero-le 65535 scratch results
-      (rw (eq-eqb (length scratch) (2 * (order * order)) fits, eq-eqb (length results) (wordsOf sizes) fits′))
+      rw begun-leaves
+      (run-accepted list (numberOf a) (named a) 0 (zeroPlanes order) (zero-sized order) zero-le 65535 scratch results
+      (rw (eq-eqb (length scratch) (scratchLength order) fits, eq-eqb (length results) (wordsOf sizes) fits′)))
 
   -- it makes every tick of the list
   pub whole-made : wholeRun a order sizes weights .made ≡ total order (length sizes)
   whole-made =
       ap (λ (r : Ran). r .made)
-      (one-run (replicate (2 * (order * order)) 0) (replicate (wordsOf sizes) 0) (length-replicate {A = ℕ} (2 * (order * order)) 0)
+      (one-run (replicate (scratchLength order) 0) (replicate (wordsOf sizes) 0) (length-replicate {A = ℕ} (scratchLength order) 0)
       (length-replicate {A = ℕ} (wordsOf sizes) 0))
-      ∙ omega (arith, total-most)
+      ∙ omega (arith, total-most (list .fits .ranged .most) (list .fits .ranged .few))
 
   -- It is accepted, and leaves what the whole run leaves.
-  run-whole : {state results : List ℕ} (scratch : List ℕ) → state ≡ started (numberOf a) order sizes → length scratch ≡ 2 * (order * order)
+  run-whole : {state results : List ℕ} (scratch : List ℕ) → state ≡ begun a order sizes weights → length scratch ≡ scratchLength order
       → results ≡ replicate (wordsOf sizes) 0
       → (ran state sizes weights 65535 scratch results .number ≡ 0)
       × (ran state sizes weights 65535 scratch results .made ≡ wholeRun a order sizes weights .made)
@@ -116,47 +106,12 @@ module _ {a : Algebra} {order : ℕ} {sizes weights : List ℕ} (list : Accepted
   run-whole {state} {results} scratch isState fits zeros =
       let long : length (replicate {A = ℕ} (wordsOf sizes) 0) ≡ wordsOf sizes = length-replicate {A = ℕ} (wordsOf sizes) 0 in
       let here = one-run scratch (replicate (wordsOf sizes) 0) fits long in
-      let whole = one-run (replicate (2 * (order * order)) 0) (replicate (wordsOf sizes) 0) (length-replicate {A = ℕ} (2 * (order * order)) 0) long in
+      let whole = one-run (replicate (scratchLength order) 0) (replicate (wordsOf sizes) 0) (length-replicate {A = ℕ} (scratchLength order) 0) long in
       rw (isState, zeros) (
         ap (λ (r : Ran). r .number) here,
         ap (λ (r : Ran). r .made) here ∙ sym (ap (λ (r : Ran). r .made) whole),
         ap (λ (r : Ran). r .results) here ∙ sym (ap (λ (r : Ran). r .results) whole),
       )
-
-  -- What start and run leave of the memory that they are lent.
-  module _ {n : ℕ} (isNumber : n ≡ numberOf a) (state scratch results : List ℕ) (lent : Lent order sizes state scratch results) where
-    pub start-done : startTests (namedOf n) order sizes weights state ≡ 0
-    start-done = rw isNumber (start-tests state (lent .state-fits))
-
-    pub run-done : {state′ results′ : List ℕ} → state′ ≡ stateAfterStart n order sizes weights state → results′ ≡ replicate (length results) 0
-        → {answer : RunAnswer} {state″ scratch″ results″ : List ℕ}
-        → Answered answer state″ scratch″ results″ (ran state′ sizes weights 65535 scratch results′)
-        → RanWhole answer results″ (wholeRun a order sizes weights)
-    run-done isState zeros answered =
-        let begun = isState ∙ ap (λ (m : ℕ). stateAfterStart m order sizes weights state) isNumber ∙ start-leaves state (lent .state-fits) in
-        let cleared = zeros ∙ ap (λ (m : ℕ). replicate {A = ℕ} m 0) (lent .results-fit) in
-        let (number, made, words) = run-whole scratch begun (lent .scratch-fits) cleared in
-        record {
-          number = answered .number ∙ number;
-          made = answered .made ∙ made;
-          words = answered .results-after ∙ words;
-        }
-
-  pub printable : {results : List ℕ} → length results ≡ wordsOf sizes → Printable order sizes results
-  printable fits = record {
-    least = list .order-least;
-    most = list .order-most;
-    few = list .few;
-    sizes-fit = λ q h. sizes-fit order sizes (list .sizes-inside) q h .1;
-    results-fit = fits;
-  }
-
--- The first line and the ticks' lines are the sheet.
-pub sheet-is : (a : Algebra) (order : ℕ) (sizes weights : List ℕ) {made : ℕ} {results : List ℕ} (after : Ran)
-    → made ≡ after .made → results ≡ after .results
-    → jobsLine (length sizes) made ++ joined made (tickLines a order sizes results) ≡ sheetFrom (jobsOf a order sizes weights) after
-unfolding sheet
-sheet-is a order sizes weights after isMade isResults = rw (isMade, isResults)
 
 -- An answer that is not the first one is a refusal.
 later : (x : ℕ) → OneOf (1 ∷ 2 ∷ 3 ∷ 4 ∷ 5 ∷ 6 ∷ 7 ∷ []) x → x ≡ 0 → ⊥
@@ -168,7 +123,7 @@ later x (inr (inr (inr (inr (inl e))))) z = omega arith
 later x (inr (inr (inr (inr (inr (inl e)))))) z = omega arith
 later x (inr (inr (inr (inr (inr (inr e)))))) z = omega arith
 
-pub start-refused : (r : StartAnswer) → OneOf (1 ∷ 2 ∷ 3 ∷ 4 ∷ 5 ∷ 6 ∷ 7 ∷ []) (tagOf StartAnswer.the-type r) → startNumber r ≡ 0 → ⊥
+start-refused : (r : StartAnswer) → OneOf (1 ∷ 2 ∷ 3 ∷ 4 ∷ 5 ∷ 6 ∷ 7 ∷ []) (tagOf StartAnswer.the-type r) → startNumber r ≡ 0 → ⊥
 start-refused start.Done k e = later 0 k refl
 start-refused start.AlgebraUnknown k e = omega arith
 start-refused start.OrderOutside k e = omega arith
@@ -178,7 +133,7 @@ start-refused start.WeightsLength k e = omega arith
 start-refused start.StateLength k e = omega arith
 start-refused start.WordAbove k e = omega arith
 
-pub run-refused : (r : RunAnswer) → OneOf (1 ∷ 2 ∷ 3 ∷ 4 ∷ 5 ∷ 6 ∷ 7 ∷ []) (tagOf RunAnswer.the-type r) → runNumber r ≡ 0 → ⊥
+run-refused : (r : RunAnswer) → OneOf (1 ∷ 2 ∷ 3 ∷ 4 ∷ 5 ∷ 6 ∷ 7 ∷ []) (tagOf RunAnswer.the-type r) → runNumber r ≡ 0 → ⊥
 run-refused (run.Made n) k e = later 0 k refl
 run-refused run.StateUnfit k e = omega arith
 run-refused run.JobsDiffer k e = omega arith
@@ -187,3 +142,52 @@ run-refused run.WeightsLength k e = omega arith
 run-refused run.ScratchLength k e = omega arith
 run-refused run.ResultsLength k e = omega arith
 run-refused run.WordAbove k e = omega arith
+
+-- The first line and the ticks' lines are the sheet.
+sheet-is : (a : Algebra) (order : ℕ) (sizes weights : List ℕ) {made : ℕ} {results : List ℕ} (after : Ran)
+    → made ≡ after .made → results ≡ after .results
+    → jobsLine (length sizes) made ++ joined made (tickLines a order sizes results) ≡ sheetFrom (jobsOf a order sizes weights) after
+unfolding sheet tickLines
+sheet-is a order sizes weights after isMade isResults = rw (isMade, isResults)
+
+-- What `print_run` asks of the list and the memory, and what start, clear and run leave of that memory.
+module _ {a : Algebra} {order : ℕ} {sizes weights state scratch results : List ℕ}
+    (asked : ListAccepted (jobsOf a order sizes weights) × RunMemory order sizes state scratch results) where
+  pub jobs-room : Fits w32 (length sizes)
+  jobs-room = omega (arith, asked .0 .fits .ranged .few)
+
+  pub printable : {results′ results″ : List ℕ} → results′ ≡ replicate (length results) 0 → length results″ ≡ length results′
+      → Printable a order sizes results″
+  printable zeros kept = record {
+    list = record { ranged = asked .0 .fits .ranged; sizes-fit = asked .0 .fits .sizes-fit };
+    results-fit = kept ∙ ap length zeros ∙ length-replicate {A = ℕ} (length results) 0 ∙ asked .1 .results-fit;
+  }
+
+  module _ {n : ℕ} (isNumber : n ≡ numberOf a) {first : StartAnswer} {state′ : List ℕ} (left : StartLeft first n order sizes weights state state′) where
+    pub start-accepts : OneOf (1 ∷ 2 ∷ 3 ∷ 4 ∷ 5 ∷ 6 ∷ 7 ∷ []) (tagOf StartAnswer.the-type first) → ⊥
+    start-accepts refused = start-refused first refused (left .outcome ∙ rw isNumber (start-tests (asked .0) state (asked .1 .state-fits)))
+
+    module _ {answer : RunAnswer} {state″ scratch″ results′ results″ : List ℕ} (cleared : results′ ≡ replicate (length results) 0)
+        (answered : Answered answer state″ scratch″ results″ (ran state′ sizes weights 65535 scratch results′)) where
+      run-done : RanWhole answer results″ (wholeRun a order sizes weights)
+      run-done =
+          let isState = left .memory ∙ ap (λ (m : ℕ). stateAfterStart m order sizes weights state) isNumber
+          ∙ start-leaves (asked .0) state (asked .1 .state-fits) ∙ sym (begun-leaves (asked .0)) in
+          let zeros = cleared ∙ ap (λ (m : ℕ). replicate {A = ℕ} m 0) (asked .1 .results-fit) in
+          let (number, made, words) = run-whole (asked .0) scratch isState (asked .1 .scratch-fits) zeros in
+          record {
+            number = answered .number ∙ number;
+            made = answered .made ∙ made;
+            words = answered .results-after ∙ words;
+          }
+
+      pub run-accepts : OneOf (1 ∷ 2 ∷ 3 ∷ 4 ∷ 5 ∷ 6 ∷ 7 ∷ []) (tagOf RunAnswer.the-type answer) → ⊥
+      run-accepts refused = run-refused answer refused (run-done .number)
+
+      pub sheet-printed : {ticks : ℕ} → answer ≡ run.Made ticks → {page page′ page″ : List ℕ} {at next : ℕ}
+          → Put page 0 (jobsLine (length sizes) ticks) page′ at
+          → Put page′ at (joined ticks (tickLines a order sizes results″)) page″ next
+          → Put page 0 (sheetFrom (jobsOf a order sizes weights) (wholeRun a order sizes weights)) page″ next
+      sheet-printed made first rest =
+          put-as (first then rest)
+          (sheet-is a order sizes weights (wholeRun a order sizes weights) (ap runMade (sym made) ∙ run-done .made) (run-done .words))

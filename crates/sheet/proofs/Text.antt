@@ -1,25 +1,28 @@
 -- What the reader's answer and buffers say of the text's sheet.
-use Prim.Native.Nat.{ℕ, zero, suc, _≤_, _<_}
-use native.Mathlib.Nat.{le-trans}
+use Prim.Native.Nat.{ℕ, zero, suc, _≤_}
 use native.Mathlib.Omega.{arith}
 use mathlib.Core.Path.{_≡_, refl, sym, ap, ap₂, _∙_}
 use mathlib.Core.List.{List, [], _∷_}
-use lib.ListN.{length, getD, take}
+use lib.ListN.{length, take}
+use lib.Seq.{length-take-le}
 use Rattle.semiring.specs.declared.Algebra.{Algebra}
 use Rattle.semiring.specs.declared.Named.the-variants.{Known}
 use Rattle.semiring.specs.Named.{namedOf, numberOf}
-use Rattle.systolic.specs.Jobs.{offset}
-use Rattle.systolic.specs.Demand.{jobsOf}
-use Rattle.systolic.proofs.Started.{sizes-fit}
+use Rattle.job_list.specs.Jobs.{offset, jobsOf}
+use Rattle.job_list.proofs.Fits.{fits-small}
+use Rattle.job_text.specs.declared.answer.Refusal.{Refusal}
 use Rattle.job_text.specs.declared.answer.Read.{Read}
 use Rattle.job_text.specs.declared.answer.Read.the-variants.{List as Listed, Refused}
-use Rattle.job_text.specs.Reading.{Reading, refused, accepted, readingOf, padded, sizesIn, weightsIn, given, turned, answerOf, answered}
-use Rattle.job_text.specs.Whole.{Accepted}
-use Rattle.job_text.proofs.Padded.{length-padded}
-use Rattle.job_text.proofs.Whole.{whole}
+use Rattle.job_text.specs.Reading.{Reading, refused, accepted, readingOf, sizesIn, weightsIn, sizesAfter, weightsAfter, given, turned, answerOf, answered}
+use Rattle.job_form.specs.Buffer.{padded}
+use Rattle.job_list.specs.Fits.{ListAccepted, Small}
+use Rattle.job_form.proofs.Padded.{length-padded}
+use Rattle.job_text.proofs.Whole.{whole, within-buffers}
+use Rattle.text.specs.inner.Put.{Put}
+use Rattle.text.proofs.Put.{put-as}
 use Rattle.sheet.specs.Lines.{refusedLine}
 use Rattle.sheet.specs.Sheet.{wholeRun, sheetFrom, printed, sheetOf}
-use Rattle.sheet.proofs.Run.{named, words-fit}
+use Rattle.sheet.proofs.Run.{named}
 
 take-padded : (n : ℕ) (l : List ℕ) → length l ≤ n → take (length l) (padded n l) ≡ l
 take-padded n [] h = refl
@@ -40,22 +43,22 @@ pub record ReadList (text : List ℕ) (order : ℕ) (a : Algebra) (jobs : ℕ) (
   pub front : take (length list-weights) weights ≡ list-weights
   pub room : length list-weights ≤ length weights
 
-module _ (text : List ℕ) {m n : ℕ} (isM : m ≡ 16) (isN : n ≡ 16384) where
+module _ (text : List ℕ) {m n : ℕ} (asked : (m ≡ 16) × (n ≡ 16384)) where
   same-reading : readingOf m n text ≡ readingOf 16 16384 text
-  same-reading = ap₂ (λ (x y : ℕ). readingOf x y text) isM isN
+  same-reading = ap₂ (λ (x y : ℕ). readingOf x y text) (asked .0) (asked .1)
 
   read-by : (r : Reading) → readingOf 16 16384 text ≡ r → {order : ℕ} {a : Algebra} {jobs : ℕ} {sizes weights : List ℕ}
       → given order (numberOf a) jobs ≡ answerOf r → sizes ≡ padded m (sizesIn r) → weights ≡ padded n (weightsIn r)
       → ReadList text order a jobs sizes weights
-  read-by (refused number line) e f isSizes isWeights = let z : _≡_ {A = ℕ} 0 1 = cc in absurd (omega arith)
+  read-by (refused r) e f isSizes isWeights = let z : _≡_ {A = ℕ} 0 1 = cc in absurd (omega arith)
   read-by (accepted order′ a′ ss ws) e {order} {a} {jobs} {sizes} {weights} f isSizes isWeights =
       let sameOrder : order ≡ order′ = cc in
       let sameNumber : numberOf a ≡ numberOf a′ = cc in
       let sameCount : jobs ≡ length ss = cc in
       let same : a ≡ a′ = same-algebra sameNumber in
-      let list : Accepted order′ a′ ss ws = whole 16 16384 text order′ a′ ss ws e in
-      let ss-fit : length ss ≤ m = rw isM (list .few) in
-      let ws-fit : length ws ≤ n = rw isN (list .words-most) in
+      let (few, most) = within-buffers 16 16384 text order′ a′ ss ws e in
+      let ss-fit : length ss ≤ m = rw (asked .0) few in
+      let ws-fit : length ws ≤ n = rw (asked .1) most in
       let front : take jobs sizes ≡ ss = rw (isSizes, sameCount) (take-padded m ss ss-fit) in
       record {
         list-weights = ws;
@@ -67,37 +70,31 @@ module _ (text : List ℕ) {m n : ℕ} (isM : m ≡ 16) (isN : n ≡ 16384) wher
       }
 
   pub read-list : {answer : Read} {order : ℕ} {a : Algebra} {jobs : ℕ} {sizes weights : List ℕ} → answer ≡ Listed order a jobs
-      → answered answer ≡ answerOf (readingOf m n text) → sizes ≡ padded m (sizesIn (readingOf m n text))
-      → weights ≡ padded n (weightsIn (readingOf m n text)) → ReadList text order a jobs sizes weights
-  read-list {order = order} {a} {jobs} is e isSizes isWeights =
-      read-by (readingOf m n text) (sym same-reading) (sym (ap answered is) ∙ e) isSizes isWeights
+      → answered answer ≡ answerOf (readingOf m n text) → sizes ≡ sizesAfter m n text → weights ≡ weightsAfter m n text
+      → ReadList text order a jobs sizes weights
+  read-list is outcome isSizes isWeights =
+      read-by (readingOf m n text) (sym same-reading) (sym (ap answered is) ∙ outcome) isSizes isWeights
 
-  refused-by : (r : Reading) {number line : ℕ} → turned number line ≡ answerOf r → refusedLine number line ≡ printed r
-  refused-by (refused number′ line′) {number} {line} e =
-      let f : number ≡ number′ = cc in
-      let g : line ≡ line′ = cc in
-      ap₂ refusedLine f g
+  refused-by : (r : Reading) {why : Refusal} → turned why ≡ answerOf r → refusedLine (why .number) (why .line) ≡ printed r
+  refused-by (refused why′) {why} e = let f : why ≡ why′ = cc in ap (λ (x : Refusal). refusedLine (x .number) (x .line)) f
   refused-by (accepted order a ss ws) e = let z : _≡_ {A = ℕ} 0 1 = cc in absurd (omega arith)
 
-  pub read-refused : {answer : Read} {number line : ℕ} → answer ≡ Refused number line → answered answer ≡ answerOf (readingOf m n text)
-      → refusedLine number line ≡ sheetOf text
-  read-refused is e = refused-by (readingOf 16 16384 text) (sym (ap answered is) ∙ e ∙ ap answerOf same-reading)
+  pub refusal-printed : {answer : Read} {why : Refusal} → answer ≡ Refused why → answered answer ≡ answerOf (readingOf m n text)
+      → {page page′ : List ℕ} {next : ℕ} → Put page 0 (refusedLine (why .number) (why .line)) page′ next → Put page 0 (sheetOf text) page′ next
+  refusal-printed is outcome p =
+      put-as p (refused-by (readingOf 16 16384 text) (sym (ap answered is) ∙ outcome ∙ ap answerOf same-reading))
 
 -- The parts of the buffers that are lent on.
 module _ {text : List ℕ} {order : ℕ} {a : Algebra} {jobs : ℕ} {sizes weights : List ℕ} (r : ReadList text order a jobs sizes weights) where
-  list : Accepted order a (take jobs sizes) (r .list-weights)
+  list : ListAccepted (jobsOf a order (take jobs sizes) (r .list-weights))
   list = whole 16 16384 text order a (take jobs sizes) (r .list-weights) (r .reading)
 
-  pub sizes-ready : ((jobs ≤ length (take jobs sizes)) × (length (take jobs sizes) ≤ 16))
-      × ((p : ℕ) → p < length (take jobs sizes) → getD (take jobs sizes) p 0 ≤ 32)
-  sizes-ready = (
-    (omega (arith, r .count), list .few),
-    λ p h. le-trans (sizes-fit order (take jobs sizes) (list .sizes-inside) p h .1) (list .order-most),
-  )
+  pub sizes-ready : (jobs ≤ length (take jobs sizes)) × Small (take jobs sizes)
+  sizes-ready = (omega (arith, r .count), fits-small (list .fits))
 
   module _ {words : ℕ} (isWords : words ≡ offset (take jobs sizes) jobs) where
     words-are : words ≡ length (r .list-weights)
-    words-are = isWords ∙ ap (offset (take jobs sizes)) (sym (r .count)) ∙ sym (words-fit list)
+    words-are = isWords ∙ ap (offset (take jobs sizes)) (sym (r .count)) ∙ sym (list .weights-fit)
 
     pub words-within : words ≤ length weights
     words-within = rw words-are (r .room)
@@ -105,10 +102,19 @@ module _ {text : List ℕ} {order : ℕ} {a : Algebra} {jobs : ℕ} {sizes weigh
     weights-are : take words weights ≡ r .list-weights
     weights-are = rw words-are (r .front)
 
-    pub list-accepted : Accepted order a (take jobs sizes) (take words weights)
+    pub list-accepted : ListAccepted (jobsOf a order (take jobs sizes) (take words weights))
     list-accepted = rw weights-are list
 
-    pub list-sheet :
+    pub words-part : words ≡ length (take words weights)
+    words-part = sym (length-take-le words weights words-within)
+
+    list-sheet :
         sheetFrom (jobsOf a order (take jobs sizes) (take words weights)) (wholeRun a order (take jobs sizes) (take words weights))
         ≡ sheetOf text
     list-sheet = rw weights-are (sym (ap printed (r .reading)))
+
+    pub list-printed : {page page′ : List ℕ} {next : ℕ}
+        → Put page 0 (sheetFrom (jobsOf a order (take jobs sizes) (take words weights)) (wholeRun a order (take jobs sizes) (take words weights)))
+        page′ next
+        → Put page 0 (sheetOf text) page′ next
+    list-printed p = put-as p list-sheet

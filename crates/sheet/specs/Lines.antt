@@ -3,14 +3,14 @@ use Prim.Native.Nat.{ℕ, _+_}
 use mathlib.Core.List.{List, [], _++_}
 use mathlib.Core.Bool.{cond, _&&_}
 use lib.Dec.{eqb, ltb}
-use Rattle.memory.specs.Ascii.{ascii}
+use Rattle.text.specs.Ascii.{ascii}
 use Rattle.semiring.specs.Algebra.{noneOf}
 use Rattle.semiring.specs.declared.Algebra.{Algebra}
 use Rattle.semiring.specs.declared.Algebra.the-variants.{Reach, Distance, Steepest}
-use Rattle.systolic.specs.Jobs.{Jobs, count, size}
-use Rattle.systolic.specs.Demand.{leaves}
-use Rattle.printing.specs.Joined.{joined}
-use Rattle.printing.specs.Numeral.{shown}
+use Rattle.job_list.specs.Jobs.{Jobs, count, size}
+use Rattle.systolic.specs.Tick.{leaves}
+use Rattle.text.specs.Joined.{joined}
+use Rattle.text.specs.Numeral.{shown}
 
 -- "A refusal prints only `(refused 14 3)`: number, line."
 abbrev pub refusedLine : ℕ → ℕ → List ℕ

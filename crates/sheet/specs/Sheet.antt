@@ -1,20 +1,24 @@
 -- Document 01, "Job text and bench program": the printed sheet of a text.
-use Prim.Native.Nat.{ℕ, _*_}
+use Prim.Native.Nat.{ℕ}
 use mathlib.Core.List.{List}
 use lib.ListN.{getD, replicate}
 use Rattle.semiring.specs.declared.Algebra.{Algebra}
 use Rattle.semiring.specs.Named.{numberOf}
-use Rattle.systolic.specs.Jobs.{Jobs, place, wordsOf}
-use Rattle.systolic.specs.Start.{started}
+use Rattle.job_list.specs.Jobs.{Jobs, place, wordsOf, jobsOf}
+use Rattle.systolic.specs.State.{stateLength, scratchLength}
+use Rattle.systolic.specs.Start.{stateAfterStart}
 use Rattle.systolic.specs.Run.{Ran, ran}
-use Rattle.systolic.specs.Demand.{jobsOf}
 use Rattle.job_text.specs.Reading.{Reading, refused, accepted, readingOf}
 use Rattle.sheet.specs.Lines.{Words, refusedLine, sheet}
+
+-- What start leaves in a state of zeros.
+abbrev pub begun : Algebra → ℕ → List ℕ → List ℕ → List ℕ
+begun a order sizes weights = stateAfterStart (numberOf a) order sizes weights (replicate (stateLength order) 0)
 
 -- The whole run of a list: from what start leaves, with the largest allowance, which is above every list's total.
 abbrev pub wholeRun : Algebra → ℕ → List ℕ → List ℕ → Ran
 wholeRun a order sizes weights =
-    ran (started (numberOf a) order sizes) sizes weights 65535 (replicate (2 * (order * order)) 0) (replicate (wordsOf sizes) 0)
+    ran (begun a order sizes weights) sizes weights 65535 (replicate (scratchLength order) 0) (replicate (wordsOf sizes) 0)
 
 -- The words that a run left in the results.
 abbrev pub resultWords : Jobs → Ran → Words
@@ -24,7 +28,7 @@ abbrev pub sheetFrom : Jobs → Ran → List ℕ
 sheetFrom J after = sheet J (resultWords J after) (after .made)
 
 abbrev pub printed : Reading → List ℕ
-printed (refused number line) = refusedLine number line
+printed (refused r) = refusedLine (r .number) (r .line)
 printed (accepted order a sizes weights) = sheetFrom (jobsOf a order sizes weights) (wholeRun a order sizes weights)
 
 -- The printed bytes for every text.

@@ -1,21 +1,24 @@
 // The printed sheet of a job text: a refusal, or the jobs' words in the order in which they leave the array.
+ghost use mathlib.Core.List.{_++_};
 ghost use mathlib.Core.Path.{_≡_};
 ghost use Prim.Native.Nat.{min};
-ghost use lib.ListN.{length};
-ghost use Rattle.printing.specs.Page.{overwritten};
-ghost use Rattle.printing.specs.Put.{Put};
+ghost use lib.ListN.{length, drop};
+ghost use Rattle.text.specs.Page.{overwritten};
+ghost use Rattle.text.specs.inner.Put.{Put};
 ghost use Rattle.sheet.specs.Sheet.{sheetOf};
 
-mod jobs;
 mod lines;
 mod list;
 mod tick_lines;
 
+use job_list::words_before;
 use job_text::Read;
 use job_text::read;
-use jobs::words_before;
 use lines::put_refused;
 use list::print_list;
+
+// Room for every sheet: the claim `Room`.
+pub const PAGE_BYTES: usize = 426005;
 
 // With buffers for the text's sizes and weights.
 fn print_text(text: &[u8], page: &mut [u8], sizes: &mut [u16], weights: &mut [u16]) -> usize
@@ -39,7 +42,7 @@ fn print_text(text: &[u8], page: &mut [u8], sizes: &mut [u16], weights: &mut [u1
                 &weights[..words],
             )
         }
-        Read::Refused { number, line } => put_refused(page, number, line),
+        Read::Refused(why) => put_refused(page, why.number, why.line),
     }
 }
 
@@ -65,7 +68,15 @@ pub fn print_sheet(text: &[u8], page: &mut [u8]) -> usize
     print_text(text, page, &mut sizes, &mut weights)
 }
 
-// The same for hosts in other languages.
+// Prints the whole sheet of a job text: a page with that room holds it to its last byte.
+pub fn print_whole(text: &[u8], room: &mut [u8; PAGE_BYTES]) -> usize
+    ensures outcome { λ r. ⌜ r ≡ length (sheetOf (now (text .entry))) ⌝ }
+    ensures memory { λ r. ⌜ now (room .exit) ≡ sheetOf (now (text .entry)) ++ drop r (now (room .entry)) ⌝ }
+{
+    print_sheet(text, room)
+}
+
+// `print_sheet` for hosts in other languages.
 #[no_mangle]
 pub extern "C" fn sheet_print(text: &[u8], page: &mut [u8]) -> usize
     ensures outcome { λ r. ⌜ r ≡ min (length (now (page .entry))) (length (sheetOf (now (text .entry)))) ⌝ }

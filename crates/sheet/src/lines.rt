@@ -1,15 +1,15 @@
 // The lines of a sheet.
 ghost use mathlib.Core.Bool.{cond};
 ghost use lib.Dec.{eqb};
-ghost use Rattle.memory.specs.Ascii.{ascii};
-ghost use Rattle.printing.specs.Numeral.{shown};
-ghost use Rattle.printing.specs.Put.{Put};
+ghost use Rattle.text.specs.Ascii.{ascii};
+ghost use Rattle.text.specs.Numeral.{shown};
+ghost use Rattle.text.specs.inner.Put.{Put};
 ghost use Rattle.sheet.specs.Lines.{refusedLine, jobsLine, shownWord, outLine};
-use printing::put_number;
-use printing::put_text;
 use semiring::Algebra;
 use semiring::Distance;
 use semiring::Steepest;
+use text::put_number;
+use text::put_text;
 
 // An entry of a job, and the tick on which it leaves.
 pub struct Entry {

@@ -1,10 +1,10 @@
 // The sheet of a list that was read: its jobs started, run once to the end, and printed.
 ghost use mathlib.Core.Path.{_≡_};
 ghost use lib.ListN.{length};
-ghost use Rattle.systolic.specs.Demand.{jobsOf};
-ghost use Rattle.job_text.specs.Whole.{Accepted};
-ghost use Rattle.printing.specs.Put.{Put};
-ghost use Rattle.sheet.specs.Lent.{Lent};
+ghost use Rattle.job_list.specs.Fits.{ListAccepted};
+ghost use Rattle.job_list.specs.Jobs.{jobsOf};
+ghost use Rattle.text.specs.inner.Put.{Put};
+ghost use Rattle.sheet.specs.inner.Memory.{RunMemory};
 ghost use Rattle.sheet.specs.Sheet.{wholeRun, sheetFrom};
 use crate::lines::put_jobs;
 use crate::tick_lines::put_ticks;
@@ -27,8 +27,8 @@ fn print_run(
     scratch: &mut [u16],
     results: &mut [u16],
 ) -> usize
-    requires { ⌜ Accepted order algebra (now sizes) (now weights) ⌝ }
-    requires { ⌜ Lent order (now sizes) (now state) (now scratch) (now results) ⌝ }
+    requires { ⌜ ListAccepted (jobsOf algebra order (now sizes) (now weights)) ⌝ }
+    requires { ⌜ RunMemory order (now sizes) (now state) (now scratch) (now results) ⌝ }
     ensures { λ r. ⌜ Put (now (page .entry)) 0
         (sheetFrom (jobsOf algebra order (now (sizes .entry)) (now (weights .entry))) (wholeRun algebra order (now (sizes .entry)) (now (weights .entry))))
         (now (page .exit)) r ⌝ }
@@ -70,7 +70,7 @@ pub fn print_list(
     sizes: &[u16],
     weights: &[u16],
 ) -> usize
-    requires { ⌜ Accepted order algebra (now sizes) (now weights) ⌝ }
+    requires { ⌜ ListAccepted (jobsOf algebra order (now sizes) (now weights)) ⌝ }
     ensures { λ r. ⌜ Put (now (page .entry)) 0
         (sheetFrom (jobsOf algebra order (now (sizes .entry)) (now (weights .entry))) (wholeRun algebra order (now (sizes .entry)) (now (weights .entry))))
         (now (page .exit)) r ⌝ }

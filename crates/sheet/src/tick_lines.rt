@@ -1,11 +1,11 @@
 // What is printed for each tick: the entries that leave on it, row by row.
 ghost use Prim.Native.Nat.{_≤_, _<_};
-ghost use Rattle.printing.specs.Joined.{joined};
-ghost use Rattle.printing.specs.Put.{Put};
-ghost use Rattle.sheet.specs.Leaving.{leavingLine, Small, Printable, tickLines};
-use crate::jobs::words_before;
+ghost use Rattle.text.specs.Joined.{joined};
+ghost use Rattle.text.specs.inner.Put.{Put};
+ghost use Rattle.sheet.specs.inner.Leaving.{leavingLine, LeavingFits, Printable, tickLines};
 use crate::lines::Entry;
 use crate::lines::put_entry;
+use job_list::words_before;
 use semiring::Algebra;
 
 // On a tick those entries of one job leave whose row and column have one sum.
@@ -25,7 +25,7 @@ fn put_row(
     part: &[u16],
     i: usize,
 ) -> usize
-    requires { ⌜ Small l (now part) × (i < l .size) ⌝ }
+    requires { ⌜ LeavingFits l (now part) × (i < l .size) ⌝ }
     ensures { λ r. ⌜ Put (now (page .entry)) at (leavingLine algebra l (now (part .entry)) i) (now (page .exit)) r ⌝ }
 {
     if l.sum < i {
@@ -46,7 +46,7 @@ fn put_row(
 }
 
 fn put_rows(page: &mut [u8], at: usize, algebra: Algebra, l: Leaving, part: &[u16]) -> usize
-    requires { ⌜ Small l (now part) ⌝ }
+    requires { ⌜ LeavingFits l (now part) ⌝ }
     ensures { λ r. ⌜ Put (now (page .entry)) at (joined (l .size) (leavingLine algebra l (now (part .entry)))) (now (page .exit)) r ⌝ }
 {
     let size = l.size;
@@ -69,7 +69,7 @@ fn put_tick(
     results: &[u16],
     t: usize,
 ) -> usize
-    requires { ⌜ Printable order (now sizes) (now results) × (t < 65535) ⌝ }
+    requires { ⌜ Printable algebra order (now sizes) (now results) × (t < 65535) ⌝ }
     ensures { λ r. ⌜ Put (now (page .entry)) at (tickLines algebra order (now (sizes .entry)) (now (results .entry)) t) (now (page .exit)) r ⌝ }
 {
     let span = 4 * order;
@@ -102,7 +102,7 @@ pub fn put_ticks(
     results: &[u16],
     ticks: usize,
 ) -> usize
-    requires { ⌜ Printable order (now sizes) (now results) × (ticks ≤ 65535) ⌝ }
+    requires { ⌜ Printable algebra order (now sizes) (now results) × (ticks ≤ 65535) ⌝ }
     ensures { λ r. ⌜ Put (now (page .entry)) at (joined ticks (tickLines algebra order (now (sizes .entry)) (now (results .entry)))) (now (page .exit)) r ⌝ }
 {
     let mut next = at;

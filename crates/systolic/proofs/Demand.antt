@@ -8,15 +8,18 @@ use lib.ListN.{length-replicate}
 use Rattle.semiring.specs.declared.Algebra.{Algebra}
 use Rattle.semiring.specs.declared.Named.the-variants.{Known}
 use Rattle.semiring.specs.Named.{namedOf}
-use Rattle.systolic.specs.Jobs.{Jobs, count}
+use Rattle.job_list.specs.Fits.{ListAccepted}
+use Rattle.job_list.specs.Jobs.{Jobs, count, jobsOf}
 use Rattle.systolic.specs.Tick.{Array, ticks}
-use Rattle.systolic.specs.State.{stateWords}
-use Rattle.systolic.specs.Start.{started, zeroPlanes}
-use Rattle.systolic.specs.Demand.{Call, Runs, runs, jobsOf, Claim, Demand3}
-use Rattle.systolic.proofs.Places.{entry-find}
-use Rattle.systolic.proofs.Ticks.{Sized, Reached, reached}
-use Rattle.systolic.proofs.Started.{Started, started-by, started-fit}
-use Rattle.systolic.proofs.Runs.{After, runs-after}
+use Rattle.systolic.specs.State.{stateWords, planesOf}
+use Rattle.systolic.specs.Start.{startTests, started, stateAfterStart, zeroPlanes}
+use Rattle.systolic.specs.claims.Demand.{Call, Runs, runs, Claim, Demand3}
+use Rattle.job_list.proofs.Places.{entry-find}
+use Rattle.systolic.specs.Cell.{Sized}
+use Rattle.systolic.proofs.Ticks.{Reached, reached}
+use Rattle.systolic.proofs.Started.{started-by}
+use Rattle.systolic.proofs.State.{planesOf-stateWords}
+use Rattle.systolic.proofs.Runs.{After, runs-after, scratches-unfit}
 
 pub zero-sized : (order : ℕ) → Sized order (zeroPlanes order)
 zero-sized order =
@@ -27,11 +30,17 @@ zero-sized order =
 abbrev fresh : ℕ → List ℕ → Array
 fresh order results = record { planes = zeroPlanes order; results = results }
 
+-- The state that start left.
+abbrev begun : Jobs → ℕ → List ℕ
+begun J algebra = stateWords (J .order) algebra (count J) 0 (zeroPlanes (J .order))
+
 claimed : {J : Jobs} {algebra : ℕ} {calls : List Call} {results : List ℕ} {after : Runs}
     → ((T : ℕ) → Reached J results T (ticks J 0 T (fresh (J .order) results)))
-    → After J algebra (fresh (J .order) results) 0 calls after → Claim J algebra calls results after
+    → After J algebra (fresh (J .order) results) 0 calls after → Claim J (begun J algebra) calls results after
 unfolding ticks
 claimed {J} {algebra} {calls} {results} {after} reached run =
+    let planes : planesOf (begun J algebra) ≡ zeroPlanes (J .order) =
+    planesOf-stateWords (J .order) algebra (count J) 0 (zeroPlanes (J .order)) (zero-sized (J .order)) in
     let state : after .state
     ≡ stateWords (J .order) algebra (count J) (after .made) (ticks J 0 (after .made) (fresh (J .order) results) .planes) =
     rw (zero-add (after .made)) at (run .state) in
@@ -41,7 +50,8 @@ claimed {J} {algebra} {calls} {results} {after} reached run =
       refusals = run .numbers;
       made = omega (arith, run .made);
       tick = rw state;
-      state = state;
+      state = rw planes state;
+      scratches = run .scratches;
       entry = λ fits q i k hq hi hk.
           rw words (reached (after .made) .entry fits (record { job = hq; row = hi; column = hk }));
       length-kept = rw words (reached (after .made) .length-kept);
@@ -49,20 +59,33 @@ claimed {J} {algebra} {calls} {results} {after} reached run =
           let (q, i, k, at, e) = entry-find {J = J} p (omega arith) in
           (q, i, k, at .job, at .row, at .column, e);
       unfit = λ d.
-          let none : after .made ≡ 0 = omega (arith, run .made, run .unfit d) in
-          (none, words ∙ ap (λ (T : ℕ). ticks J 0 T (fresh (J .order) results) .results) none);
+          let none : after .made ≡ 0 = omega (arith, run .made, run .unfit d) in (
+            none,
+            state
+                ∙ ap (λ (T : ℕ). stateWords (J .order) algebra (count J) T (ticks J 0 T (fresh (J .order) results) .planes)) none,
+            words ∙ ap (λ (T : ℕ). ticks J 0 T (fresh (J .order) results) .results) none,
+            run .scratches ∙ scratches-unfit (J .order) (J .sizes) results d calls,
+          );
     }
 
-module _ {a : Algebra} {order : ℕ} {sizes weights : List ℕ} (start : Started a order sizes weights) (algebra : ℕ)
+module _ {a : Algebra} {order : ℕ} {sizes weights : List ℕ} (list : ListAccepted (jobsOf a order sizes weights)) (algebra : ℕ)
     (named : namedOf algebra ≡ Known a) (calls : List Call) (results : List ℕ) where
   pub started-claim :
-      Claim (jobsOf a order sizes weights) algebra calls results (runs sizes weights calls (started algebra order sizes) results)
+      Claim (jobsOf a order sizes weights) (started algebra order sizes) calls results
+      (runs sizes weights calls (started algebra order sizes) results)
   unfolding ticks
   started-claim =
-      claimed (λ T. reached (started-fit start) T (fresh order results))
-      (runs-after start algebra named (fresh order results) (zero-sized order) calls 0 zero-le)
+      claimed (λ T. reached list T (fresh order results))
+      (runs-after list algebra named (fresh order results) (zero-sized order) calls 0 zero-le)
+
+-- The same from what start leaves in a state that was lent to it.
+pub start-claim : {a : Algebra} (algebra order : ℕ) (sizes weights state : List ℕ) → startTests (namedOf algebra) order sizes weights state ≡ 0
+    → ListAccepted (jobsOf a order sizes weights) → namedOf algebra ≡ Known a → (calls : List Call) (results : List ℕ)
+    → (let begun = stateAfterStart algebra order sizes weights state in
+    Claim (jobsOf a order sizes weights) begun calls results (runs sizes weights calls begun results))
+start-claim algebra order sizes weights state e list named calls results = rw e (started-claim list algebra named calls results)
 
 pub demand3 : Demand3
 demand3 algebra order sizes weights state e =
-    let (a, named, start) = started-by (namedOf algebra) order sizes weights state e in
-    (a, named, started-claim start algebra named)
+    let (a, named, list) = started-by (namedOf algebra) order sizes weights state e in
+    (a, named, start-claim algebra order sizes weights state e list named)

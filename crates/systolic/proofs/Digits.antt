@@ -2,25 +2,13 @@
 use Prim.Native.Nat.{ℕ, _+_, _-_, _*_, _/_, _%_, _<_, _≤_}
 use native.Mathlib.Nat.{div-add-mod', div-lt-iff-lt-mul, mod-lt, mul-le-mul-left}
 use native.Mathlib.Omega.{arith}
-use mathlib.Core.Path.{_≡_, refl, sym, ap, _∙_}
-use mathlib.Core.Bool.{Bool, true, false, true≢false, _&&_}
+use mathlib.Core.Path.{_≡_, ap, _∙_}
+use mathlib.Core.Bool.{true, false}
 use lib.Arith.{digits-div, digits-mod}
 use borrow.Author.Tests.{le-leb, lt-ltb}
-use Rattle.systolic.specs.Jobs.{Jobs, count}
+use Rattle.job_list.specs.Jobs.{Jobs, count}
 use Rattle.systolic.specs.Cell.{Planes, cellOf, stepped}
 use Rattle.systolic.specs.Tick.{works, jobAt, passAt, pointAt, cellAfter}
-
-pub both-true : (b c : Bool) → (b && c) ≡ true → (b ≡ true) × (c ≡ true)
-both-true true c e = (refl, e)
-both-true false c e = absurd (true≢false (sym e))
-
--- Two numbers to the base n are equal digit by digit.
-pub same-digits : {n x y x′ y′ : ℕ} → y < n → y′ < n → n * x + y ≡ n * x′ + y′ → (x ≡ x′) × (y ≡ y′)
-same-digits {n} {x} {y} {x′} {y′} h h′ e =
-    let u : x * n + y ≡ x′ * n + y′ = omega arith in (
-      sym (digits-div x h) ∙ ap (λ (z : ℕ). z / n) u ∙ digits-div x′ h′,
-      sym (digits-mod x h) ∙ ap (λ (z : ℕ). z % n) u ∙ digits-mod x′ h′,
-    )
 
 -- Step s of a cell is step k of pass p of job q.
 pub record Step (J : Jobs) (s q p k : ℕ) : Type 0 where

@@ -9,12 +9,12 @@ use lib.ListN.{length, getD, set, length-set}
 use lib.Seq.{getD-set-same, getD-set-other}
 use lib.Dec.{eqb, leb, ltb}
 use borrow.Author.Tests.{leb-true, ltb-true, eqb-true, lt-ltb}
-use Rattle.systolic.specs.Jobs.{Jobs, count, size, place}
+use Rattle.job_list.specs.Jobs.{Jobs, count, size, place, Entry}
 use Rattle.systolic.specs.Cell.{Planes, cellOf}
-use Rattle.systolic.specs.Tick.{stepAt, works, jobAt, passAt, pointAt, emitted, emittedRows}
-use Rattle.systolic.specs.Demand.{leaves}
-use Rattle.systolic.proofs.Digits.{both-true, Step, step-job, step-pass, step-point, step-works, step-of}
-use Rattle.systolic.proofs.Places.{Entry, entry-same}
+use Rattle.systolic.specs.Tick.{stepAt, works, jobAt, passAt, pointAt, emitted, emittedRows, leaves}
+use Rattle.memory.proofs.Any.{both-true}
+use Rattle.systolic.proofs.Digits.{Step, step-job, step-pass, step-point, step-works, step-of}
+use Rattle.job_list.proofs.Places.{entry-same}
 
 -- Cell (i, N - 1) makes step k of the fourth pass on the tick on which entry (i, k) leaves.
 leaves-on : {J : Jobs} {t s q p k : ℕ} (i : ℕ) → Step J s q p k → p ≡ 3 → i + (J .order - 1) ≤ t → s ≡ t - (i + (J .order - 1))

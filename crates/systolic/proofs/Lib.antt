@@ -2,7 +2,6 @@ pub mod Digits
 pub mod Registers
 pub mod Padding
 pub mod Invariant
-pub mod Places
 pub mod Emission
 pub mod Ticks
 pub mod Started
@@ -10,3 +9,6 @@ pub mod State
 pub mod Runs
 pub mod Demand
 pub mod Corollaries
+pub mod Totals
+pub mod Refusals
+pub mod Zero

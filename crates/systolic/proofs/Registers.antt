@@ -19,26 +19,27 @@ use Rattle.semiring.proofs.Order.{
 }
 use Rattle.closure.specs.Table.{Table}
 use Rattle.closure.specs.Elimination.{passes}
+use Rattle.closure.proofs.Equations.{passes-none, passes-next}
 use Rattle.closure.proofs.Links.{Links}
 use Rattle.closure.proofs.Passes.{passes-word, passes-better, column-still, row-still, triangle}
-use Rattle.systolic.proofs.Digits.{same-digits}
+use Rattle.memory.proofs.Geometry.{same-digits}
 
 -- What pass m of the elimination offers to entry (i, j).
 abbrev pub offer : Algebra → Table → ℕ → ℕ → ℕ → ℕ
 offer a t m i j = productOf a (passes a t m i m) (passes a t m m j)
 
 -- The pass of the array, 0 to 2, in which point m's offer reaches cell (i, j) in full.
-pub data Ready (i j m : ℕ) : ℕ → Type 0 where
-  below : m < i → m < j → Ready i j m 0
-  across : i < m → m < j → Ready i j m 1
-  back : j < m → m < i → Ready i j m 1
-  any : Ready i j m 2
+pub data Arrives (i j m : ℕ) : ℕ → Type 0 where
+  below : m < i → m < j → Arrives i j m 0
+  across : i < m → m < j → Arrives i j m 1
+  back : j < m → m < i → Arrives i j m 1
+  any : Arrives i j m 2
 
 -- x is register c of cell (i, j) after n of its steps for the job.
-pub record Summed (a : Algebra) (t : Table) (order i j n x : ℕ) : Type 0 where
+pub record Staying (a : Algebra) (t : Table) (order i j n x : ℕ) : Type 0 where
   pub above : AsGood a (passes a t order i j) x
   pub begun : min i j < n → AsGood a x (t i j)
-  pub absorbed : {u m : ℕ} → Ready i j m u → m < order → order * u + m < n → AsGood a x (offer a t m i j)
+  pub absorbed : {u m : ℕ} → Arrives i j m u → m < order → order * u + m < n → AsGood a x (offer a t m i j)
 
 -- x is a word that moves along a row or column: it belongs to entry (i, j), it is replaced in the cell at `key`, and it has
 -- passed v cells for the job.
@@ -61,8 +62,7 @@ module _ {a : Algebra} {t : Table} (links : Links a t) where
   gathered : {i j x : ℕ} (m : ℕ) → AsGood a x (t i j)
       → ((l : ℕ) → l < m → (l ≡ i → ⊥) → (l ≡ j → ⊥) → AsGood a x (offer a t l i j))
       → AsGood a x (passes a t m i j)
-  unfolding passes
-  gathered zero e f = e
+  gathered zero e f = rw (passes-none a t) e
   gathered {i} {j} {x} (suc m) e f = go (gathered m e (λ l h. f l (omega arith))) (ℕ-discrete m i) (ℕ-discrete m j)
     where
       go : AsGood a x (passes a t m i j) → Dec (m ≡ i) → Dec (m ≡ j) → AsGood a x (passes a t (suc m) i j)
@@ -72,20 +72,19 @@ module _ {a : Algebra} {t : Table} (links : Links a t) where
       go g (no u) (yes v) =
           let still : passes a t (suc m) i j ≡ passes a t m i j = rw (← v) (column-still links m i) in
           rw still g
-      go g (no u) (no v) = good-sum g (f m (omega arith) u v)
+      go g (no u) (no v) = rw (passes-next a t m) (good-sum g (f m (omega arith) u v))
 
   module _ {order : ℕ} where
     -- A word is fed, and c starts from none.
     pub fed-moving : (key i j : ℕ) → Moving a t order key i j 0 (t i j)
-    unfolding passes
     fed-moving key i j = record {
-      above = passes-better links {m = 0} {m′ = order} i j zero-le;
+      above = rw (passes-none a t) at (passes-better links {m = 0} {m′ = order} i j zero-le);
       entered = good-refl (links .word i j);
       first = λ m h. absurd (omega arith);
       second = λ h. absurd (omega arith);
     }
 
-    pub none-summed : (i j : ℕ) → Summed a t order i j 0 (noneOf a)
+    pub none-summed : (i j : ℕ) → Staying a t order i j 0 (noneOf a)
     none-summed i j = record {
       above = good-none (passes-word links order i j);
       begun = λ h. absurd (omega arith);
@@ -95,7 +94,7 @@ module _ {a : Algebra} {t : Table} (links : Links a t) where
     -- A step: the word of point k in row i, and the word of point k in column j, meet in cell (i, j) in pass p.
     module _ {k i j : ℕ} (hk : k < order) (hi : i < order) (hj : j < order) where
       -- Where point k's offer is due, the two words are as good as its parts.
-      offered : {p x y : ℕ} → Ready i j k p → Moving a t order k i k (order * p + j) x → Moving a t order k k j (order * p + i) y
+      offered : {p x y : ℕ} → Arrives i j k p → Moving a t order k i k (order * p + j) x → Moving a t order k k j (order * p + i) y
           → AsGood a (productOf a x y) (offer a t k i j)
       offered (below u v) x y =
           product-good (x .first k (omega arith) (omega arith) (omega arith)) (y .first k (omega arith) (omega arith) (omega arith))
@@ -118,9 +117,9 @@ module _ {a : Algebra} {t : Table} (links : Links a t) where
               rw (← v, links .own j, laws a .product-own (links .word i j)) in
               rw f at (product-good gx gy)
 
-      pub sum-summed : (p : ℕ) {x y z : ℕ} → Summed a t order i j (order * p + k) z
+      pub sum-summed : (p : ℕ) {x y z : ℕ} → Staying a t order i j (order * p + k) z
           → Moving a t order k i k (order * p + j) x → Moving a t order k k j (order * p + i) y
-          → Summed a t order i j (order * p + k + 1) (sumOf a z (productOf a x y))
+          → Staying a t order i j (order * p + k + 1) (sumOf a z (productOf a x y))
       sum-summed p {x} {y} {z} c row column = record {
         above =
             good-sum (c .above) (good-trans (triangle links i j hk) (product-good (row .above) (column .above)));
@@ -141,7 +140,7 @@ module _ {a : Algebra} {t : Table} (links : Links a t) where
               good-trans new
               (entry-offered (same-digits {x = 0} {x′ = p} (omega arith) hk e .1) (row .entered) (column .entered))
 
-          absorbed : {u m : ℕ} → Ready i j m u → m < order → Dec (order * u + m < order * p + k) → order * u + m < order * p + k + 1
+          absorbed : {u m : ℕ} → Arrives i j m u → m < order → Dec (order * u + m < order * p + k) → order * u + m < order * p + k + 1
               → AsGood a (sumOf a z (productOf a x y)) (offer a t m i j)
           absorbed r hm (yes l) h = good-trans old (c .absorbed r hm l)
           absorbed {u} {m} r hm (no l) h =
@@ -149,28 +148,28 @@ module _ {a : Algebra} {t : Table} (links : Links a t) where
               rw f (good-trans new (offered (rw (e, f) at r) row column))
 
       -- The fourth pass adds nothing, and nothing is missing.
-      pub kept-summed : (p : ℕ) {x : ℕ} → order * 3 ≤ order * p → Summed a t order i j (order * p + k) x
-          → Summed a t order i j (order * p + k + 1) x
+      pub kept-summed : (p : ℕ) {x : ℕ} → order * 3 ≤ order * p → Staying a t order i j (order * p + k) x
+          → Staying a t order i j (order * p + k + 1) x
       kept-summed p {x} late c = record {
         above = c .above;
         begun = λ h. c .begun (omega arith);
         absorbed = λ {u} {m} r hm h. c .absorbed r hm (by-then r hm);
       }
         where
-          by-then : {u m : ℕ} → Ready i j m u → m < order → order * u + m < order * p + k
+          by-then : {u m : ℕ} → Arrives i j m u → m < order → order * u + m < order * p + k
           by-then (below x y) hm = omega arith
           by-then (across x y) hm = omega arith
           by-then (back x y) hm = omega arith
           by-then any hm = omega arith
 
     -- Past the third pass c is as good as the elimination.
-    pub summed-all : {i j n x : ℕ} → i < order → j < order → order * 3 ≤ n → Summed a t order i j n x
+    pub summed-all : {i j n x : ℕ} → i < order → j < order → order * 3 ≤ n → Staying a t order i j n x
         → AsGood a x (passes a t order i j)
     summed-all {i} hi hj h c =
         gathered order (c .begun (omega arith)) (λ m hm u v. c .absorbed any hm (omega arith))
 
     -- The new c as a word that moves on: from cell (i, k) along row i, from cell (k, j) along column j.
-    pub row-taken : (p : ℕ) {k i x : ℕ} → k < order → Summed a t order i k (order * p + k + 1) x
+    pub row-taken : (p : ℕ) {k i x : ℕ} → k < order → Staying a t order i k (order * p + k + 1) x
         → Moving a t order k i k (order * p + k + 1) x
     row-taken p {k} {i} {x} hk c = record {
       above = c .above;
@@ -186,7 +185,7 @@ module _ {a : Algebra} {t : Table} (links : Links a t) where
         inner l hl u h (yes b) = c .absorbed (below b hl) (omega arith) (omega arith)
         inner l hl u h (no b) = c .absorbed (across (omega arith) hl) (omega arith) (omega arith)
 
-    pub column-taken : (p : ℕ) {k j x : ℕ} → k < order → Summed a t order k j (order * p + k + 1) x
+    pub column-taken : (p : ℕ) {k j x : ℕ} → k < order → Staying a t order k j (order * p + k + 1) x
         → Moving a t order k k j (order * p + k + 1) x
     column-taken p {k} {j} {x} hk c = record {
       above = c .above;

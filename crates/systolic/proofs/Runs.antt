@@ -1,11 +1,11 @@
 -- A list of runs: each one is accepted or refused by its scratch and its results alone, and what the accepted ones leave is as many
 -- ticks as they made together.
-use Prim.Native.Nat.{ℕ, _+_, _-_, _*_, _≤_, min}
+use Prim.Native.Nat.{ℕ, _+_, _-_, _≤_, min}
 use native.Mathlib.Nat.{zero-add, add-zero}
 use native.Mathlib.Omega.{arith}
 use native.Mathlib.Decide.{ℕ-discrete}
 use mathlib.Core.Path.{_≡_, refl, sym, ap, _∙_}
-use mathlib.Core.List.{List, [], _∷_}
+use mathlib.Core.List.{List, [], _∷_, map}
 use mathlib.Core.Bool.{Bool, true, false, cond, not}
 use lib.ListN.{length, replicate}
 use lib.Dec.{eqb}
@@ -13,23 +13,16 @@ use borrow.Author.Tests.{le-ltb, eq-eqb, ne-eqb}
 use Rattle.semiring.specs.declared.Algebra.{Algebra}
 use Rattle.semiring.specs.declared.Named.the-variants.{Known}
 use Rattle.semiring.specs.Named.{namedOf}
-use Rattle.closure.specs.Tests.{refuse}
-use Rattle.systolic.specs.Jobs.{Jobs, count, wordsOf}
-use Rattle.systolic.specs.Cell.{Planes}
+use Rattle.job_list.specs.Jobs.{Jobs, count, wordsOf, jobsOf}
+use Rattle.systolic.specs.Cell.{Planes, Sized}
 use Rattle.systolic.specs.Tick.{Array, ticks}
-use Rattle.systolic.specs.State.{stateWords, stateLength, total}
+use Rattle.systolic.specs.State.{stateWords, stateLength, scratchLength, total}
 use Rattle.systolic.specs.Run.{Ran, badState, runTests, ranOn, refusedRun, ranBy, ran}
-use Rattle.systolic.specs.Demand.{Call, Runs, runs, numbersDue, jobsOf}
-use Rattle.systolic.proofs.Ticks.{Sized, ticks-add, ticks-sized, reached}
-use Rattle.systolic.proofs.Started.{Started, started-fit}
+use Rattle.systolic.specs.claims.Demand.{Call, Runs, runs, numberDue, scratchDue}
+use Rattle.systolic.proofs.Ticks.{ticks-add, ticks-sized, reached}
+use Rattle.job_list.specs.Fits.{ListAccepted}
+use Rattle.job_list.proofs.Fits.{order-passes, count-passes, sizes-pass, words-pass}
 use Rattle.systolic.proofs.State.{stateWords-length, planesOf-stateWords}
-
--- The number of a run on jobs that were started: only the scratch and the results can be unfit.
-abbrev pub numberDue : ℕ → List ℕ → List ℕ → List ℕ → ℕ
-numberDue order sizes scratch results =
-    refuse (not (eqb (length scratch) (2 * (order * order)))) 12
-    (refuse (not (eqb (length results) (wordsOf sizes))) 4
-    0)
 
 -- What an accepted run answers and leaves that brings the array to m.
 abbrev pub acceptedRun : ℕ → ℕ → ℕ → ℕ → ℕ → List ℕ → Array → Ran
@@ -41,7 +34,7 @@ acceptedRun order algebra count tick made scratch m = record {
   scratch = replicate (length scratch) 0;
 }
 
-module _ {a : Algebra} {order : ℕ} {sizes weights : List ℕ} (start : Started a order sizes weights)
+module _ {a : Algebra} {order : ℕ} {sizes weights : List ℕ} (list : ListAccepted (jobsOf a order sizes weights))
     (algebra : ℕ) (named : namedOf algebra ≡ Known a) (T : ℕ) (r : Planes) (sized : Sized order r)
     (within : T ≤ total order (length sizes)) where
   state-good : badState (stateWords order algebra (length sizes) T r) ≡ false
@@ -49,14 +42,14 @@ module _ {a : Algebra} {order : ℕ} {sizes weights : List ℕ} (start : Started
       let words : List ℕ = stateWords order algebra (length sizes) T r in
       let long = le-ltb (length words) 4 (omega arith) in
       let fits = eq-eqb (length words) (stateLength order) (stateWords-length order algebra (length sizes) T r sized) in
-      rw (long, start .order-inside, start .count-inside, fits, le-ltb (total order (length sizes)) T within)
+      rw (long, order-passes (list .fits), count-passes (list .fits), fits, le-ltb (total order (length sizes)) T within)
 
   run-tests : (scratch results : List ℕ)
       → runTests (Known a) (stateWords order algebra (length sizes) T r) sizes weights scratch results ≡ numberDue order sizes scratch results
   run-tests scratch results =
       let jobs = eq-eqb (length sizes) (length sizes) refl in
-      let fits = eq-eqb (length weights) (wordsOf sizes) (start .length-fits) in
-      rw (state-good, jobs, start .sizes-inside, fits, start .none-above)
+      let fits = eq-eqb (length weights) (wordsOf sizes) (list .weights-fit) in
+      rw (state-good, jobs, sizes-pass (list .fits), fits, words-pass list)
 
   -- A run that is accepted, and one that is refused.
   pub run-accepted : (allowance : ℕ) (scratch results : List ℕ) → numberDue order sizes scratch results ≡ 0
@@ -83,6 +76,7 @@ joined call one rest = record {
   made = one .made + rest .made;
   state = rest .state;
   results = rest .results;
+  scratches = one .scratch ∷ rest .scratches;
 }
 
 runs-cons : (sizes weights : List ℕ) (call : Call) (calls : List Call) (state results : List ℕ) {one : Ran}
@@ -94,7 +88,8 @@ runs-cons sizes weights call calls state results =
 
 -- What a list of runs leaves that begins after T ticks from the array x.
 pub record After (J : Jobs) (algebra : ℕ) (x : Array) (T : ℕ) (calls : List Call) (after : Runs) : Type 0 where
-  pub numbers : after .numbers ≡ numbersDue (J .order) (J .sizes) calls (x .results)
+  pub numbers : after .numbers ≡ map (λ (call : Call). numberDue (J .order) (J .sizes) (call .scratch) (x .results)) calls
+  pub scratches : after .scratches ≡ map (λ (call : Call). scratchDue (J .order) (J .sizes) (call .scratch) (x .results)) calls
   pub made : T + after .made ≡ min (T + after .allowed) (total (J .order) (count J))
   pub state :
       after .state
@@ -106,26 +101,37 @@ pub record After (J : Jobs) (algebra : ℕ) (x : Array) (T : ℕ) (calls : List 
 due-unfit : (order : ℕ) (sizes scratch results : List ℕ) → (length results ≡ wordsOf sizes → ⊥)
     → numberDue order sizes scratch results ≡ 0 → ⊥
 due-unfit order sizes scratch results d e =
-    go (not (eqb (length scratch) (2 * (order * order)))) (rw (ne-eqb (length results) (wordsOf sizes) d) at e)
+    go (not (eqb (length scratch) (scratchLength order))) (rw (ne-eqb (length results) (wordsOf sizes) d) at e)
   where
-    go : (b : Bool) → refuse b 12 4 ≡ 0 → ⊥
+    go : (b : Bool) → _≡_ {A = ℕ} (cond b 12 4) 0 → ⊥
     go true f = omega arith
     go false f = omega arith
+
+-- Then every scratch is as it was lent.
+pub scratches-unfit : (order : ℕ) (sizes results : List ℕ) → (length results ≡ wordsOf sizes → ⊥) → (calls : List Call)
+    → map (λ (call : Call). scratchDue order sizes (call .scratch) results) calls ≡ map (λ (call : Call). call .scratch) calls
+scratches-unfit order sizes results d [] = refl
+scratches-unfit order sizes results d (call ∷ calls) =
+    rw (
+      ne-eqb (numberDue order sizes (call .scratch) results) 0 (due-unfit order sizes (call .scratch) results d),
+      scratches-unfit order sizes results d calls,
+    )
 
 -- One run in front of a list: the ticks it may make, where it is accepted.
 module _ {J : Jobs} {algebra : ℕ} {x : Array} {T : ℕ} (call : Call) {calls : List Call} (one : Ran) {rest : Runs}
     (within : T ≤ total (J .order) (count J))
     (number : one .number ≡ numberDue (J .order) (J .sizes) (call .scratch) (x .results))
+    (scratch : one .scratch ≡ scratchDue (J .order) (J .sizes) (call .scratch) (x .results))
     (after : After J algebra x (T + one .made) calls rest) where
   after-one :
       T + (one .made + rest .made)
       ≡ min (T + (cond (eqb (one .number) 0) (call .allowance) 0 + rest .allowed)) (total (J .order) (count J))
       → After J algebra x T (call ∷ calls) (joined call one rest)
-  unfolding numbersDue
   after-one made =
       let e : T + (one .made + rest .made) ≡ T + one .made + rest .made = omega arith in
       record {
         numbers = rw (number, after .numbers);
+        scratches = rw (scratch, after .scratches);
         made = made;
         state = rw e (after .state);
         results = rw e (after .results);
@@ -141,7 +147,7 @@ module _ {J : Jobs} {algebra : ℕ} {x : Array} {T : ℕ} (call : Call) {calls :
   after-refused : (one .number ≡ 0 → ⊥) → one .made ≡ 0 → After J algebra x T (call ∷ calls) (joined call one rest)
   after-refused d made = after-one (rw (ne-eqb (one .number) 0 d) (omega (arith, after .made)))
 
-module _ {a : Algebra} {order : ℕ} {sizes weights : List ℕ} (start : Started a order sizes weights)
+module _ {a : Algebra} {order : ℕ} {sizes weights : List ℕ} (list : ListAccepted (jobsOf a order sizes weights))
     (algebra : ℕ) (named : namedOf algebra ≡ Known a) (x : Array) (sized : Sized order (x .planes)) where
   -- the array, the state and the results after T ticks
   abbrev arrayAt : ℕ → Array
@@ -162,9 +168,10 @@ module _ {a : Algebra} {order : ℕ} {sizes weights : List ℕ} (start : Started
   sized-at T = ticks-sized (jobsOf a order sizes weights) 0 T x sized
 
   runs-none : (T : ℕ) → T ≤ total order (length sizes) → RunsFrom [] T
-  unfolding runs numbersDue
+  unfolding runs
   runs-none T within = record {
     numbers = refl;
+    scratches = refl;
     made = omega arith;
     state = rw (add-zero T);
     results = rw (add-zero T);
@@ -177,7 +184,7 @@ module _ {a : Algebra} {order : ℕ} {sizes weights : List ℕ} (start : Started
 
     -- Ticks keep the length of the results, so the number due is that of the first results.
     due-kept : numberDue order sizes (call .scratch) (resultsAt T) ≡ due
-    due-kept = rw (reached (started-fit start) T x .length-kept)
+    due-kept = rw (reached list T x .length-kept)
 
     -- what the run answers and leaves, accepted and refused
     abbrev taken : ℕ → Ran
@@ -194,7 +201,7 @@ module _ {a : Algebra} {order : ℕ} {sizes weights : List ℕ} (start : Started
         ≡ taken (min (call .allowance) (total order (length sizes) - T))
     run-taken e =
         let made : ℕ = min (call .allowance) (total order (length sizes) - T) in
-        run-accepted start algebra named T (arrayAt T .planes) (sized-at T) within (call .allowance) (call .scratch) (resultsAt T)
+        run-accepted list algebra named T (arrayAt T .planes) (sized-at T) within (call .allowance) (call .scratch) (resultsAt T)
         (due-kept ∙ e)
         ∙ ap (acceptedRun order algebra (length sizes) (T + made) made (call .scratch)) (more made)
 
@@ -202,7 +209,7 @@ module _ {a : Algebra} {order : ℕ} {sizes weights : List ℕ} (start : Started
     unfolding refusedRun
     run-turned d =
         rw (← due-kept)
-        (run-refused start algebra named T (arrayAt T .planes) (sized-at T) within (call .allowance) (call .scratch) (resultsAt T)
+        (run-refused list algebra named T (arrayAt T .planes) (sized-at T) within (call .allowance) (call .scratch) (resultsAt T)
         (λ e. d (sym due-kept ∙ e)))
 
     runs-one : (calls : List Call) → ((U : ℕ) → U ≤ total order (length sizes) → RunsFrom calls U) → Dec (due ≡ 0)
@@ -210,10 +217,10 @@ module _ {a : Algebra} {order : ℕ} {sizes weights : List ℕ} (start : Started
     runs-one calls f (yes e) =
         let made : ℕ = min (call .allowance) (total order (length sizes) - T) in
         rw (runs-cons sizes weights call calls (stateAt T) (resultsAt T) (run-taken e))
-        (after-accepted call (taken made) within (sym e) (f (T + made) (omega arith)) refl refl)
+        (after-accepted call (taken made) within (sym e) (rw (eq-eqb due 0 e)) (f (T + made) (omega arith)) refl refl)
     runs-one calls f (no d) =
         rw (runs-cons sizes weights call calls (stateAt T) (resultsAt T) (run-turned d))
-        (after-refused call turned within refl (rw (add-zero T) (f T within)) d refl)
+        (after-refused call turned within refl (rw (ne-eqb due 0 d)) (rw (add-zero T) (f T within)) d refl)
 
   pub runs-after : (calls : List Call) (T : ℕ) → T ≤ total order (length sizes)
       → After (jobsOf a order sizes weights) algebra x T calls

@@ -6,9 +6,8 @@ use mathlib.Core.Path.{_≡_, refl, ap, _∙_}
 use mathlib.Core.List.{_++_}
 use lib.ListN.{length, take, drop, length-append}
 use lib.Seq.{take-at, drop-at, take-all, drop-append-add}
-use Rattle.systolic.specs.Cell.{Planes}
+use Rattle.systolic.specs.Cell.{Planes, Sized}
 use Rattle.systolic.specs.State.{stateWords, planeOf, planesOf, stateLength}
-use Rattle.systolic.proofs.Ticks.{Sized}
 
 module _ (order algebra count tick : ℕ) (r : Planes) (sized : Sized order r) where
   pub stateWords-length : length (stateWords order algebra count tick r) ≡ stateLength order

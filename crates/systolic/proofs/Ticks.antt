@@ -1,6 +1,6 @@
 -- The array after T ticks from the first one, from any planes and any results: each entry is the job's elimination word once its
 -- tick is past, and the old word before that.
-use Prim.Native.Nat.{ℕ, zero, suc, _+_, _-_, _*_, _≤_, _<_}
+use Prim.Native.Nat.{ℕ, zero, suc, _+_, _-_, _≤_, _<_}
 use native.Mathlib.Nat.{zero-add, add-zero, suc-add}
 use native.Mathlib.Omega.{arith}
 use native.Mathlib.Decide.{decLt, ℕ-discrete}
@@ -13,13 +13,13 @@ use borrow.Author.Tests.{lt-ltb, le-ltb}
 use Rattle.semiring.proofs.Order.{good-antisym}
 use Rattle.closure.specs.Elimination.{closure}
 use Rattle.closure.proofs.Holds.{rowByRow-holds}
-use Rattle.systolic.specs.Jobs.{Jobs, size, wordsOf, jobWeights, place}
-use Rattle.systolic.specs.Cell.{Planes, cellOf}
-use Rattle.systolic.specs.Tick.{Array, cellAfter, planesAfter, emittedRows, ticked, ticks}
-use Rattle.systolic.specs.Demand.{leaves}
-use Rattle.systolic.proofs.Padding.{Fit, fed-passes}
+use Rattle.job_list.specs.Fits.{ListAccepted}
+use Rattle.job_list.specs.Jobs.{Jobs, size, wordsOf, jobWeights, place, Entry}
+use Rattle.systolic.specs.Cell.{Planes, Sized, cellOf}
+use Rattle.systolic.specs.Tick.{Array, cellAfter, planesAfter, emittedRows, ticked, ticks, leaves}
+use Rattle.systolic.proofs.Padding.{fed-passes}
 use Rattle.systolic.proofs.Invariant.{Invariant, invariant-none, invariant-tick}
-use Rattle.systolic.proofs.Places.{Entry, entry-below}
+use Rattle.job_list.proofs.Places.{entry-below}
 use Rattle.systolic.proofs.Emission.{entry-step, rows-length, rows-other, rows-entry}
 
 -- m ticks and then n more
@@ -30,12 +30,6 @@ module _ (J : Jobs) where
   ticks-add t (suc m) n x =
       let e : t + suc m ≡ t + 1 + m = omega arith in
       rw (suc-add m n, e) (ticks-add (t + 1) m n (ticked J t x))
-
--- Each plane has N times N words.
-pub record Sized (order : ℕ) (r : Planes) : Type 0 where
-  pub c : length (r .c) ≡ order * order
-  pub a : length (r .a) ≡ order * order
-  pub b : length (r .b) ≡ order * order
 
 module _ (J : Jobs) where
   pub planes-sized : (t : ℕ) (r : Planes) → Sized (J .order) (planesAfter J t r)
@@ -59,19 +53,19 @@ pub record Reached (J : Jobs) (old : List ℕ) (T : ℕ) (m : Array) : Type 0 wh
       → getD (m .results) (place J q i k) 0
       ≡ cond (ltb (leaves J q i k) T) (closure (J .algebra q) (size J q) (jobWeights J q) i k) (getD old (place J q i k) 0)
 
-module _ {J : Jobs} (fit : Fit J) where
+module _ {J : Jobs} (list : ListAccepted J) where
   -- What leaves cell (i, N - 1) in the fourth pass.
   out-word : {T : ℕ} {r : Planes} {q i k : ℕ} → Invariant J (T + 1) r → Entry J q i k → leaves J q i k ≡ T
       → cellOf J r i (J .order - 1) .a ≡ closure (J .algebra q) (size J q) (jobWeights J q) i k
   out-word {T} {r} {q} {i} {k} inv at e =
-      let fits : size J q ≤ J .order = fit .sizes q (at .job) in
-      let least = fit .least in
+      let fits : size J q ≤ J .order = list .fits .sizes-fit q (at .job) .1 in
+      let least = list .fits .ranged .least in
       let held = inv .held (entry-step at fits) i (J .order - 1) (omega (arith, at .row)) (omega arith) (omega arith) in
-      good-antisym (held .out refl (omega (arith, at .column))) (held .a .above) ∙ fed-passes fit (at .job) (at .row) (at .column)
+      good-antisym (held .out refl (omega (arith, at .column))) (held .a .above) ∙ fed-passes list (at .job) (at .row) (at .column)
 
   pub reached-none : (x : Array) → Reached J (x .results) 0 x
   reached-none x = record {
-    planes = invariant-none fit (x .planes);
+    planes = invariant-none list (x .planes);
     length-kept = refl;
     entry = λ {q} {i} {k} fits at. rw (le-ltb (leaves J q i k) 0 (omega arith));
   }
@@ -79,8 +73,8 @@ module _ {J : Jobs} (fit : Fit J) where
   pub reached-tick : {old : List ℕ} {T : ℕ} {m : Array} → Reached J old T m → Reached J old (T + 1) (ticked J T m)
   unfolding ticked
   reached-tick {old} {T} {m} before = record {
-    planes = invariant-tick fit (before .planes);
-    length-kept = rows-length J (fit .least) T new (J .order) (m .results) ∙ before .length-kept;
+    planes = invariant-tick list (before .planes);
+    length-kept = rows-length J (list .fits .ranged .least) T new (J .order) (m .results) ∙ before .length-kept;
     entry = λ {q} {i} {k} fits at. go fits at (ℕ-discrete (leaves J q i k) T);
   }
     where
@@ -98,14 +92,14 @@ module _ {J : Jobs} (fit : Fit J) where
           → getD (emittedRows J T new (J .order) (m .results)) (place J q i k) 0
           ≡ cond (ltb (leaves J q i k) (T + 1)) (closure (J .algebra q) (size J q) (jobWeights J q) i k) (getD old (place J q i k) 0)
       go {q} {i} {k} fits at (yes e) =
-          let fit-order = fit .sizes q (at .job) in
+          let fit-order = list .fits .sizes-fit q (at .job) .1 in
           let inside : place J q i k < length (m .results) = omega (arith, before .length-kept, entry-below at) in
           rw (lt-ltb (leaves J q i k) (T + 1) (omega arith))
-          (rows-entry J (fit .least) T new (J .order) (m .results) at fit-order e inside (omega (arith, at .row))
-          ∙ out-word (invariant-tick fit (before .planes)) at e)
+          (rows-entry J (list .fits .ranged .least) T new (J .order) (m .results) at fit-order e inside (omega (arith, at .row))
+          ∙ out-word (invariant-tick list (before .planes)) at e)
       go {q} {i} {k} fits at (no e) =
           rw (test (leaves J q i k) e)
-          (rows-other J (fit .least) T new (J .order) (m .results) at e ∙ before .entry fits at)
+          (rows-other J (list .fits .ranged .least) T new (J .order) (m .results) at e ∙ before .entry fits at)
 
   pub reached-ticks : {old : List ℕ} {T : ℕ} (n : ℕ) {m : Array} → Reached J old T m → Reached J old (T + n) (ticks J T n m)
   unfolding ticks

@@ -1,17 +1,26 @@
 -- Document 01, "Cell rule": what one cell does on one of its steps.
-use Prim.Native.Nat.{ℕ, zero, suc, _-_}
+use Prim.Native.Nat.{ℕ, zero, suc, _-_, _*_}
+use mathlib.Core.Path.{_≡_}
 use mathlib.Core.List.{List}
 use mathlib.Core.Bool.{cond, _&&_}
+use lib.ListN.{length}
 use lib.Dec.{eqb, ltb}
 use Rattle.semiring.specs.Algebra.{noneOf, sumOf, productOf}
 use Rattle.closure.specs.Table.{entries}
-use Rattle.systolic.specs.Jobs.{Jobs, fed}
+use Rattle.job_list.specs.Jobs.{Jobs}
+use Rattle.systolic.specs.Feeder.{fed}
 
 -- The planes c, a and b: N by N words each, row by row.
 pub record Planes : Type 0 where
   pub c : List ℕ
   pub a : List ℕ
   pub b : List ℕ
+
+-- "planes c, a, b of N times N words"
+pub record Sized (order : ℕ) (r : Planes) : Type 0 where
+  pub c : length (r .c) ≡ order * order
+  pub a : length (r .a) ≡ order * order
+  pub b : length (r .b) ≡ order * order
 
 -- "Cell (i, j) has registers a, b, c."
 pub record Cell : Type 0 where

@@ -1,8 +1,7 @@
-pub mod Jobs
+pub mod Feeder
 pub mod Cell
 pub mod Tick
 pub mod State
 pub mod Start
 pub mod Run
-pub mod Demand
-pub mod Corollaries
+pub mod claims

@@ -1,7 +1,7 @@
 -- Document 01: Run, its tests, the ticks that it makes, and state, results and scratch after it.
-use Prim.Native.Nat.{ℕ, _+_, _-_, _*_, min}
-use mathlib.Core.List.{List}
-use mathlib.Core.Bool.{Bool, cond, not, _||_}
+use Prim.Native.Nat.{ℕ, _+_, _-_, min}
+use mathlib.Core.List.{List, [], _∷_}
+use mathlib.Core.Bool.{Bool, cond, not}
 use lib.ListN.{length, replicate}
 use lib.Dec.{eqb, ltb}
 use Rattle.semiring.specs.Algebra.{topOf}
@@ -9,33 +9,41 @@ use Rattle.semiring.specs.Named.{namedOf}
 use Rattle.semiring.specs.declared.Algebra.{Algebra}
 use Rattle.semiring.specs.declared.Named.{Named}
 use Rattle.semiring.specs.declared.Named.the-variants.{Known, Unknown}
-use Rattle.closure.specs.Tests.{refuse, outside, anyAbove}
-use Rattle.systolic.specs.Jobs.{Jobs, wordsOf}
+use Rattle.refusals.specs.Tests.{first, oneOf, outside}
+use Rattle.semiring.specs.Words.{anyAbove}
+use Rattle.job_list.specs.Jobs.{jobsOf, wordsOf}
 use Rattle.systolic.specs.Tick.{ticks}
-use Rattle.systolic.specs.State.{stateWords, orderOf, algebraOf, countOf, tickOf, planesOf, stateLength, total}
-use Rattle.systolic.specs.Start.{anyOutside}
+use Rattle.systolic.specs.State.{stateWords, orderOf, algebraOf, countOf, tickOf, planesOf, stateLength, scratchLength, total}
+use Rattle.job_list.specs.Fits.{anyOutside}
 
--- "state shorter than 4, its N, algebra or Q out of range, its length wrong, or tick above the total": all but the algebra
-abbrev pub badState : List ℕ → Bool
-badState state =
+-- "10 state shorter than 4, its N, algebra or Q out of range, its length wrong, or tick above the total": all but the algebra
+abbrev pub badTests : List ℕ → List Bool
+badTests state =
     ltb (length state) 4
-    || outside 1 32 (orderOf state)
-    || outside 1 16 (countOf state)
-    || not (eqb (length state) (stateLength (orderOf state)))
-    || ltb (total (orderOf state) (countOf state)) (tickOf state)
+    ∷ outside 1 32 (orderOf state)
+    ∷ outside 1 16 (countOf state)
+    ∷ not (eqb (length state) (stateLength (orderOf state)))
+    ∷ ltb (total (orderOf state) (countOf state)) (tickOf state)
+    ∷ []
 
--- "10 ..; 11 sizes not Q many; 8; 3; 12 scratch length; 4 results not the sum of n²; 5"
+abbrev pub badState : List ℕ → Bool
+badState state = oneOf (badTests state)
+
+-- "10 ..; 11 sizes not Q many; 8; 3; 12 scratch length; 4 results not the sum of n²; 5": of the order and the count in the state
+abbrev pub runTable : Algebra → ℕ → ℕ → List ℕ → List ℕ → List ℕ → List ℕ → List (Bool × ℕ)
+runTable a order count sizes weights scratch results =
+    (not (eqb (length sizes) count), 11)
+    ∷ (anyOutside order sizes, 8)
+    ∷ (not (eqb (length weights) (wordsOf sizes)), 3)
+    ∷ (not (eqb (length scratch) (scratchLength order)), 12)
+    ∷ (not (eqb (length results) (wordsOf sizes)), 4)
+    ∷ (anyAbove (topOf a) weights, 5)
+    ∷ []
+
 abbrev pub runTests : Named → List ℕ → List ℕ → List ℕ → List ℕ → List ℕ → ℕ
 runTests Unknown state sizes weights scratch results = 10
 runTests (Known a) state sizes weights scratch results =
-    refuse (badState state) 10
-    (refuse (not (eqb (length sizes) (countOf state))) 11
-    (refuse (anyOutside (orderOf state) sizes) 8
-    (refuse (not (eqb (length weights) (wordsOf sizes))) 3
-    (refuse (not (eqb (length scratch) (2 * (orderOf state * orderOf state)))) 12
-    (refuse (not (eqb (length results) (wordsOf sizes))) 4
-    (refuse (anyAbove (topOf a) weights) 5
-    0))))))
+    first 0 ((badState state, 10) ∷ runTable a (orderOf state) (countOf state) sizes weights scratch results)
 
 -- "the smaller of its allowance and the ticks left"
 abbrev pub ticksMade : List ℕ → ℕ → ℕ
@@ -52,7 +60,7 @@ pub record Ran : Type 0 where
 -- The accepted run: "Scratch .. is left zero by every accepted run."
 unfoldable pub ranOn : Algebra → List ℕ → List ℕ → List ℕ → ℕ → List ℕ → List ℕ → Ran
 ranOn a state sizes weights allowance scratch results =
-    let J : Jobs = record { order = orderOf state; algebra = λ q. a; sizes = sizes; weights = weights } in
+    let J = jobsOf a (orderOf state) sizes weights in
     let made = ticksMade state allowance in
     let m = ticks J (tickOf state) made (record { planes = planesOf state; results = results }) in
     record {

@@ -30,6 +30,10 @@ planesOf state = record { c = planeOf 0 state; a = planeOf 1 state; b = planeOf 
 abbrev pub stateLength : ℕ → ℕ
 stateLength order = 4 + 3 * (order * order)
 
+-- "Scratch has 2N² words"
+abbrev pub scratchLength : ℕ → ℕ
+scratchLength order = 2 * (order * order)
+
 -- "4NQ + 2N - 2"
 abbrev pub total : ℕ → ℕ → ℕ
 total order count = 4 * order * count + 2 * order - 2

@@ -5,7 +5,7 @@ use mathlib.Core.Bool.{Bool, cond, _&&_}
 use lib.ListN.{set}
 use lib.Dec.{eqb, leb, ltb}
 use Rattle.closure.specs.Table.{rowByRow}
-use Rattle.systolic.specs.Jobs.{Jobs, count, size, place}
+use Rattle.job_list.specs.Jobs.{Jobs, count, size, place}
 use Rattle.systolic.specs.Cell.{Planes, Cell, cellOf, stepped}
 
 -- "On tick t (from 0) let s = t - i - j. If s < 0 or s >= 4NQ, the cell keeps its registers."
@@ -50,6 +50,10 @@ emitted J t new i results =
     (works J t i (J .order - 1) && eqb (passAt J s) 3 && ltb i (size J q) && ltb k (size J q))
     (set results (place J q i k) (cellOf J new i (J .order - 1) .a))
     results
+
+-- "entry (i, k) of job q, on tick 4Nq + 4N - 1 + i + k"
+abbrev pub leaves : Jobs → ℕ → ℕ → ℕ → ℕ
+leaves J q i k = 4 * J .order * q + 4 * J .order - 1 + i + k
 
 -- The same for the rows 0 to m - 1.
 unfoldable pub emittedRows : Jobs → ℕ → Planes → ℕ → List ℕ → List ℕ

@@ -1,9 +1,9 @@
 // The texts of the input.
 use crate::print;
-use job_form::until;
 use job_text::Read;
 use job_text::read;
 use semiring::number;
+use text::until;
 
 // One text into two buffers: what was read and what the buffers then hold, but for zeros at their ends.
 pub fn one(label: &[u8], text: &[u8], sizes: &mut [u16], weights: &mut [u16]) {
@@ -22,10 +22,10 @@ pub fn one(label: &[u8], text: &[u8], sizes: &mut [u16], weights: &mut [u16]) {
             print::text(b" jobs");
             print::number(jobs as u32);
         }
-        Read::Refused { number, line } => {
+        Read::Refused(why) => {
             print::text(b": refused");
-            print::number(number as u32);
-            print::number(line);
+            print::number(why.number as u32);
+            print::number(why.line);
         }
     }
     print::buffer(b"; sizes", sizes);

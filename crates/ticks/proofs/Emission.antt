@@ -12,7 +12,7 @@ use lib.Seq.{take-set-le, drop-set-add, take-set-lt, drop-set-lt}
 use lib.Dec.{eqb, ltb}
 use borrow.Author.Tests.{eq-eqb, ne-eqb, lt-ltb, le-ltb}
 use Rattle.memory.specs.Lists.{replaced}
-use Rattle.systolic.specs.Jobs.{Jobs, count}
+use Rattle.job_list.specs.Jobs.{Jobs, count}
 use Rattle.systolic.specs.Cell.{Planes, cellOf}
 use Rattle.systolic.specs.Tick.{emitted, emittedRows}
 use Rattle.systolic.proofs.Digits.{step-job, step-pass, step-point, step-works}

@@ -12,16 +12,17 @@ use borrow.Author.Tests.{eq-eqb, ne-eqb, le-leb, lt-leb, lt-ltb, le-ltb}
 use Rattle.semiring.specs.Algebra.{noneOf, ownOf}
 use Rattle.semiring.specs.declared.Algebra.{Algebra}
 use Rattle.closure.specs.Table.{entries}
-use Rattle.systolic.specs.Jobs.{Jobs, padded}
+use Rattle.job_list.specs.Jobs.{Jobs, jobsOf}
+use Rattle.systolic.specs.Feeder.{paddedTable}
 use Rattle.systolic.specs.Cell.{Planes, bIn}
-use Rattle.systolic.specs.Demand.{jobsOf}
 use Rattle.ticks.specs.declared.jobs.Job.{Job}
 use Rattle.cells.specs.declared.turn.Turn.{Turn}
 use Rattle.cells.specs.Turn.{live, jobIn, passIn}
-use Rattle.cells.specs.Span.{Spanned}
+use Rattle.memory.specs.Walked.{Spanned}
 use Rattle.ticks.specs.Feed.{fedIn, topWord, PartOf}
 use Rattle.cells.specs.Cells.{Topped}
 use Rattle.ticks.proofs.Places.{part-width}
+use Rattle.memory.proofs.Walk.{spanned-same, spanned-as}
 use Rattle.cells.proofs.Turns.{On, on-same}
 use Rattle.ticks.proofs.Rows.{on-before, on-after}
 
@@ -34,8 +35,22 @@ module _ (algebra : Algebra) (sizes weights : List ℕ) (pass : ℕ) where
 
   -- the job's part as it is lent
   pub fed-entry : {job : Job} (i j word : ℕ) → live (length sizes) pass ≡ true → passIn pass ≡ 0 → PartOf sizes (jobIn pass) job
-      → padded algebra (job .size) (take (job .end - job .start) (drop (job .start) weights)) i j ≡ fedIn algebra sizes weights pass i j word
+      → paddedTable algebra (job .size) (take (job .end - job .start) (drop (job .start) weights)) i j ≡ fedIn algebra sizes weights pass i j word
   fed-entry i j word e f part = rw (part-width part, part .size, part .start, e, eq-eqb (passIn pass) 0 f)
+
+  -- the same of a part of row 0, where column j is at point k - j
+  module _ (k : ℕ) {from to : ℕ} {top : List ℕ} where
+    pub part-idle : live (length sizes) pass ≡ false
+        → Spanned (λ j word. fedIn algebra sizes weights pass (k - j) j word) top from to top
+    part-idle e = spanned-as spanned-same (λ j h h′. fed-idle (k - j) j (getD top j 0) e)
+
+    pub part-later : passIn pass ≢ 0 → Spanned (λ j word. fedIn algebra sizes weights pass (k - j) j word) top from to top
+    part-later e = spanned-as spanned-same (λ j h h′. fed-later (k - j) j (getD top j 0) e)
+
+    pub part-entry : {job : Job} {new : List ℕ} → live (length sizes) pass ≡ true → passIn pass ≡ 0 → PartOf sizes (jobIn pass) job
+        → Spanned (λ j word. paddedTable algebra (job .size) (take (job .end - job .start) (drop (job .start) weights)) (k - j) j) top from to new
+        → Spanned (λ j word. fedIn algebra sizes weights pass (k - j) j word) top from to new
+    part-entry e f part fed = spanned-as fed (λ j h h′. fed-entry (k - j) j (getD top j 0) e f part)
 
 -- What comes into row 0.
 module _ (algebra : Algebra) (n : ℕ) (sizes weights : List ℕ) (t : ℕ) (s : Turn) (h : s .point < n) (least : 1 ≤ s .pass)
@@ -85,14 +100,14 @@ module _ (algebra : Algebra) (n : ℕ) (sizes weights : List ℕ) (t : ℕ) (s :
 
 -- The entries of a padded job.
 module _ (algebra : Algebra) (size : ℕ) (weights : List ℕ) {i j : ℕ} where
-  pub padded-own : i ≡ j → ownOf algebra ≡ padded algebra size weights i j
+  pub padded-own : i ≡ j → ownOf algebra ≡ paddedTable algebra size weights i j
   padded-own e = rw (eq-eqb i j e)
 
-  pub padded-row : i ≢ j → size ≤ i → noneOf algebra ≡ padded algebra size weights i j
+  pub padded-row : i ≢ j → size ≤ i → noneOf algebra ≡ paddedTable algebra size weights i j
   padded-row e h = rw (ne-eqb i j e, le-ltb i size h)
 
-  pub padded-column : i ≢ j → size ≤ j → noneOf algebra ≡ padded algebra size weights i j
+  pub padded-column : i ≢ j → size ≤ j → noneOf algebra ≡ paddedTable algebra size weights i j
   padded-column e h = rw (ne-eqb i j e, le-ltb j size h, and-false (ltb i size))
 
-  pub padded-entry : i ≢ j → i < size → j < size → entries size weights i j ≡ padded algebra size weights i j
+  pub padded-entry : i ≢ j → i < size → j < size → entries size weights i j ≡ paddedTable algebra size weights i j
   padded-entry e h k = rw (ne-eqb i j e, lt-ltb i size h, lt-ltb j size k)

@@ -1,43 +1,22 @@
 -- Where the jobs' parts lie: within the words of the list, which are few.
-use Prim.Native.Nat.{ℕ, zero, suc, _+_, _-_, _*_, _<_, _≤_}
-use native.Mathlib.Nat.{not-suc-le-zero}
-use native.Mathlib.Numerals.{add-one}
+use Prim.Native.Nat.{ℕ, _+_, _-_, _*_, _<_, _≤_}
 use native.Mathlib.Omega.{arith}
-use mathlib.Core.Path.{_≡_, refl, _∙_}
-use mathlib.Core.List.{List, [], _∷_}
+use mathlib.Core.Path.{_≡_, sym, _∙_}
+use mathlib.Core.List.{List}
 use mathlib.Core.Bool.{true}
-use lib.ListN.{length, getD}
-use Rattle.systolic.specs.Jobs.{offset, wordsOf}
-use Rattle.systolic.proofs.Places.{offset-next}
-use Rattle.memory.proofs.Walk.{Walked}
+use lib.ListN.{length, getD, set}
+use mir.Syntax.{w64}
+use mir.Val.{Fits}
+use Rattle.job_list.specs.Jobs.{offset}
+use Rattle.job_list.specs.Fits.{Small}
+use Rattle.job_list.proofs.Places.{offset-none, offset-one, part-within}
+use Rattle.job_list.proofs.Fits.{area-fits, offset-most, words-most}
+use Rattle.memory.specs.Walked.{Walked}
+use Rattle.memory.proofs.Walk.{walked-none, walked-one}
 use Rattle.ticks.specs.declared.jobs.Job.{Job}
 use Rattle.cells.specs.Turn.{live, jobIn}
 use Rattle.ticks.specs.Feed.{Listed, PartOf}
-use Rattle.cells.proofs.Geometry.{area-fits}
 use Rattle.cells.proofs.Turns.{live-job}
-
-pub offset-none : (sizes : List ℕ) → offset sizes 0 ≡ 0
-unfolding offset
-offset-none [] = refl
-offset-none (n ∷ sizes) = refl
-
--- one job more, in the words of the code
-pub offset-one : (sizes : List ℕ) (q : ℕ) → q < length sizes → offset sizes (q + 1) ≡ offset sizes q + getD sizes q 0 * getD sizes q 0
-offset-one sizes q h = rw (add-one q) (offset-next sizes q h)
-
--- a job's part is within the words of the list
-pub part-within : (sizes : List ℕ) (q : ℕ) → q < length sizes → offset sizes q + getD sizes q 0 * getD sizes q 0 ≤ wordsOf sizes
-unfolding offset
-part-within [] q h = absurd (not-suc-le-zero h)
-part-within (n ∷ sizes) zero h = omega arith
-part-within (n ∷ sizes) (suc q) h = omega (arith, part-within sizes q (omega arith))
-
--- jobs of at most 32 points
-pub offset-most : (sizes : List ℕ) (q : ℕ) → q ≤ length sizes → ((p : ℕ) → p < length sizes → getD sizes p 0 ≤ 32)
-    → offset sizes q ≤ 1024 * q
-offset-most sizes zero h fit = rw (offset-none sizes) (omega arith)
-offset-most sizes (suc q) h fit =
-    omega (arith, offset-next sizes q h, offset-most sizes q (omega arith) fit, area-fits (fit q h))
 
 -- The job of a live pass, from the numbers of the code.
 module _ {sizes starts : List ℕ} (listed : Listed sizes starts) (pass : ℕ) (e : live (length sizes) pass ≡ true) where
@@ -56,15 +35,40 @@ module _ {sizes starts : List ℕ} (listed : Listed sizes starts) (pass : ℕ) (
         within = rw (start-at, f) (part-within sizes (jobIn pass) h);
       }
 
--- The places all found.
-pub marked : {sizes old starts : List ℕ} {q : ℕ} → length sizes ≤ 16 → length sizes ≤ length old
-    → ((p : ℕ) → p < length sizes → getD sizes p 0 ≤ 32) → q ≡ length sizes → Walked (λ p word. offset sizes p) old q starts
-    → Listed sizes starts
-marked {sizes} few room fit e w = record {
-  few = few;
-  room = omega (arith, w .size);
-  start = λ p h. w .done p (omega arith);
-  words = omega (arith, offset-most sizes (length sizes) (omega arith) fit);
+-- The starts of the first q jobs found, and where the next one begins.
+pub record Marked (sizes old starts : List ℕ) (q at : ℕ) : Type 0 where
+  pub within : q ≤ length sizes
+  pub next : at ≡ offset sizes q
+  pub found : Walked (λ p word. offset sizes p) old q starts
+
+pub begins : (sizes old : List ℕ) → Marked sizes old old 0 0
+begins sizes old = record { within = omega arith; next = sym (offset-none sizes); found = walked-none }
+
+module _ (sizes old starts : List ℕ) (q at : ℕ) (m : Marked sizes old starts q at) (more : q < length sizes)
+    (asked : (length sizes ≤ length old) × Small sizes) where
+  pub start-room : q < length starts
+  start-room = omega (arith, m .found .size, asked .0)
+
+  pub square-room : (size : ℕ) → size ≡ getD sizes q 0 → Fits w64 (size * size)
+  square-room size e = rw e (omega (arith, area-fits (asked .1 .small q more)))
+
+  pub sum-room : (size : ℕ) → size ≡ getD sizes q 0 → Fits w64 (at + size * size)
+  sum-room size e = rw e (omega (arith, area-fits (asked .1 .small q more), m .next, offset-most (asked .1) q (m .within), asked .1 .few))
+
+  pub goes-on : (size : ℕ) → size ≡ getD sizes q 0 → Marked sizes old (set starts q at) (q + 1) (at + size * size)
+  goes-on size e = record {
+    within = omega arith;
+    next = rw (e, m .next) (sym (offset-one sizes q more));
+    found = walked-one _ (m .found) (omega (arith, asked .0)) (m .next);
+  }
+
+pub ends : (sizes old starts : List ℕ) (q at : ℕ) → Marked sizes old starts q at → length sizes ≤ q
+    → (length sizes ≤ length old) × Small sizes → Listed sizes starts
+ends sizes old starts q at m last asked = record {
+  few = asked .1 .few;
+  room = omega (arith, m .found .size, asked .0);
+  start = λ p h. m .found .inside p (omega arith) (omega arith);
+  words = words-most (asked .1);
 }
 
 pub part-width : {sizes : List ℕ} {q : ℕ} {job : Job} → PartOf sizes q job → job .end - job .start ≡ job .size * job .size

@@ -10,11 +10,9 @@ use borrow.Author.Tests.{le-leb, lt-leb}
 use Rattle.semiring.specs.declared.Algebra.{Algebra}
 use Rattle.closure.specs.Table.{entries, rowByRow}
 use Rattle.closure.proofs.Holds.{holds-rowByRow}
-use Rattle.systolic.specs.Jobs.{Jobs, count}
-use Rattle.systolic.specs.Cell.{Planes, Cell, cellOf, aIn, bIn, stepped}
+use Rattle.job_list.specs.Jobs.{Jobs, count, jobsOf}
+use Rattle.systolic.specs.Cell.{Planes, Cell, cellOf, aIn, bIn, stepped, Sized}
 use Rattle.systolic.specs.Tick.{cellAfter, planesAfter}
-use Rattle.systolic.specs.Demand.{jobsOf}
-use Rattle.systolic.proofs.Ticks.{Sized}
 use Rattle.cells.specs.declared.turn.Turn.{Turn}
 use Rattle.cells.specs.Turn.{live, jobIn, passIn}
 use Rattle.cells.specs.Span.{Worked}

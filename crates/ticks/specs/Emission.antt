@@ -4,7 +4,7 @@ use mathlib.Core.List.{List}
 use mathlib.Core.Bool.{cond, _&&_}
 use lib.ListN.{length, getD, set}
 use lib.Dec.{eqb, ltb}
-use Rattle.systolic.specs.Jobs.{offset}
+use Rattle.job_list.specs.Jobs.{offset}
 use Rattle.cells.specs.declared.turn.Turn.{Turn}
 use Rattle.cells.specs.Turn.{live, jobIn, passIn}
 

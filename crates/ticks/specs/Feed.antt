@@ -6,7 +6,8 @@ use mathlib.Core.Bool.{cond, _&&_}
 use lib.ListN.{length, getD, take, drop}
 use lib.Dec.{eqb, leb}
 use Rattle.semiring.specs.declared.Algebra.{Algebra}
-use Rattle.systolic.specs.Jobs.{offset, wordsOf, padded}
+use Rattle.job_list.specs.Jobs.{offset, wordsOf}
+use Rattle.systolic.specs.Feeder.{paddedTable}
 use Rattle.ticks.specs.declared.jobs.Job.{Job}
 use Rattle.cells.specs.declared.turn.Turn.{Turn}
 use Rattle.cells.specs.Turn.{live, jobIn, passIn}
@@ -15,7 +16,7 @@ use Rattle.cells.specs.Turn.{live, jobIn, passIn}
 abbrev pub entryFed : Algebra → List ℕ → List ℕ → ℕ → ℕ → ℕ → ℕ
 entryFed algebra sizes weights q =
     let size = getD sizes q 0 in
-    padded algebra size (take (size * size) (drop (offset sizes q) weights))
+    paddedTable algebra size (take (size * size) (drop (offset sizes q) weights))
 
 -- The fed entry (i, j) in pass 0 of a job, else `word`.
 abbrev pub fedIn : Algebra → List ℕ → List ℕ → ℕ → ℕ → ℕ → ℕ → ℕ

@@ -5,9 +5,8 @@ ghost use mathlib.Core.List.{List};
 ghost use lib.ListN.{length, set};
 ghost use Rattle.semiring.specs.declared.Algebra.{Algebra};
 ghost use Rattle.systolic.specs.Tick.{emittedRows};
-ghost use Rattle.systolic.specs.Jobs.{wordsOf};
-ghost use Rattle.systolic.specs.Demand.{jobsOf};
-ghost use Rattle.cells.specs.Turn.{Corner, tickOf};
+ghost use Rattle.job_list.specs.Jobs.{wordsOf, jobsOf};
+ghost use Rattle.cells.specs.Turn.{Corner, cornerTick};
 ghost use Rattle.cells.specs.Span.{memories};
 ghost use Rattle.ticks.specs.Feed.{Listed};
 ghost use Rattle.ticks.specs.Emission.{sent};
@@ -54,7 +53,7 @@ fn send(i: usize, s: Turn, sizes: &[u16], starts: &[usize], word: u16, results: 
 pub fn emit(n: usize, corner: Turn, sizes: &[u16], starts: &[usize], a: &[u16], results: &mut [u16])
     requires { ⌜ (n ≤ 32) × Corner n corner × Listed (now sizes) (now starts) × (wordsOf (now sizes) ≡ length (now results)) × (length (now a) ≡ n * n) ⌝ }
     ensures { λ _. ⌜ ((algebra : Algebra) (weights c b : List ℕ) → now (results .exit)
-        ≡ emittedRows (jobsOf algebra n (now (sizes .entry)) weights) (tickOf n corner)
+        ≡ emittedRows (jobsOf algebra n (now (sizes .entry)) weights) (cornerTick n corner)
         (memories c (now (a .entry)) b) n (now (results .entry))) ⌝ }
 {
     let mut s = corner;

@@ -3,10 +3,11 @@ ghost use mathlib.Core.Path.{_≡_};
 ghost use Prim.Native.Nat.{ℕ, _+_, _-_, _*_, _≤_, _<_};
 ghost use mathlib.Core.List.{List};
 ghost use lib.ListN.{length};
-ghost use Rattle.systolic.specs.Jobs.{wordsOf, padded};
-ghost use Rattle.systolic.specs.Demand.{jobsOf};
-ghost use Rattle.cells.specs.Span.{Spanned, memories};
-ghost use Rattle.cells.specs.Turn.{Corner, tickOf};
+ghost use Rattle.job_list.specs.Jobs.{wordsOf, jobsOf};
+ghost use Rattle.systolic.specs.Feeder.{paddedTable};
+ghost use Rattle.memory.specs.Walked.{Spanned};
+ghost use Rattle.cells.specs.Span.{memories};
+ghost use Rattle.cells.specs.Turn.{Corner, cornerTick};
 ghost use Rattle.ticks.specs.Feed.{fedIn, Listed};
 ghost use Rattle.cells.specs.Cells.{Topped};
 use crate::jobs::job_of;
@@ -20,7 +21,7 @@ use semiring::own;
 // Entry (i, j) of a job of a size, padded.
 fn fed(algebra: Algebra, size: usize, weights: &[u16], i: usize, j: usize) -> u16
     requires { ⌜ length (now weights) ≡ size * size ⌝ }
-    ensures { λ r. ⌜ r ≡ padded algebra size (now (weights .entry)) i j ⌝ }
+    ensures { λ r. ⌜ r ≡ paddedTable algebra size (now (weights .entry)) i j ⌝ }
 {
     if i == j {
         return own(algebra);
@@ -74,7 +75,7 @@ fn feed(
     top: &mut [u16],
 )
     requires { ⌜ (length (now weights) ≡ size * size) × (from ≤ to) × (to ≤ k + 1) × (to ≤ length (now top)) ⌝ }
-    ensures { λ _. ⌜ Spanned (λ j word. padded algebra size (now (weights .entry)) (k - j) j) (now (top .entry)) from to (now (top .exit)) ⌝ }
+    ensures { λ _. ⌜ Spanned (λ j word. paddedTable algebra size (now (weights .entry)) (k - j) j) (now (top .entry)) from to (now (top .exit)) ⌝ }
 {
     let mut j = from;
     while j < to {
@@ -125,7 +126,7 @@ pub fn fill(
 )
     requires { ⌜ (n ≤ 32) × Corner n s × Listed (now sizes) (now starts) × (wordsOf (now sizes) ≡ length (now weights))
         × (length (now b) ≡ n * n) × (n ≤ length (now top)) ⌝ }
-    ensures { λ _. ⌜ ((c a : List ℕ) → Topped (jobsOf algebra n (now (sizes .entry)) (now (weights .entry))) (tickOf n s)
+    ensures { λ _. ⌜ ((c a : List ℕ) → Topped (jobsOf algebra n (now (sizes .entry)) (now (weights .entry))) (cornerTick n s)
         (memories c a (now (b .entry))) (now (top .exit))) ⌝ }
 {
     let end = n * n;

@@ -1,8 +1,9 @@
 // Where the jobs lie in the list's weights and in the results.
 ghost use mathlib.Core.Path.{_≡_};
 ghost use mathlib.Core.Bool.{true};
-ghost use Prim.Native.Nat.{ℕ, _≤_, _<_};
-ghost use lib.ListN.{length, getD};
+ghost use Prim.Native.Nat.{_≤_};
+ghost use lib.ListN.{length};
+ghost use Rattle.job_list.specs.Fits.{Small};
 ghost use Rattle.cells.specs.Turn.{live, jobIn};
 ghost use Rattle.ticks.specs.Feed.{Listed, PartOf};
 
@@ -21,8 +22,7 @@ fn wide(x: u16) -> usize
 
 // Where each job's part begins.
 pub fn mark(sizes: &[u16], starts: &mut [usize])
-    requires { ⌜ (length (now sizes) ≤ 16) × (length (now sizes) ≤ length (now starts))
-        × ((q : ℕ) → q < length (now sizes) → getD (now sizes) q 0 ≤ 32) ⌝ }
+    requires { ⌜ (length (now sizes) ≤ length (now starts)) × Small (now sizes) ⌝ }
     ensures { λ _. ⌜ Listed (now (sizes .entry)) (now (starts .exit)) ⌝ }
 {
     let mut q = 0;

@@ -2,10 +2,9 @@
 ghost use mathlib.Core.Path.{_≡_};
 ghost use Prim.Native.Nat.{_-_, _*_, _≤_, _<_};
 ghost use lib.ListN.{length};
-ghost use Rattle.systolic.specs.Jobs.{wordsOf};
-ghost use Rattle.systolic.specs.Demand.{jobsOf};
-ghost use Rattle.systolic.proofs.Ticks.{Sized};
-ghost use Rattle.cells.specs.Turn.{Corner, tickOf};
+ghost use Rattle.job_list.specs.Jobs.{wordsOf, jobsOf};
+ghost use Rattle.systolic.specs.Cell.{Sized};
+ghost use Rattle.cells.specs.Turn.{Corner, cornerTick};
 ghost use Rattle.cells.specs.Span.{memories};
 ghost use Rattle.ticks.specs.Feed.{Listed};
 ghost use Rattle.cells.specs.Cells.{Topped, Swept};
@@ -28,9 +27,9 @@ pub fn sweep(
 )
     requires { ⌜ (n ≤ 32) × Corner n corner × Listed (now sizes) (now starts) × (wordsOf (now sizes) ≡ length (now weights)) × (n ≤ length (now top))
         × Sized n (memories (now c) (now a) (now b)) ⌝ }
-    ensures { λ _. ⌜ (Topped (jobsOf algebra n (now (sizes .entry)) (now (weights .entry))) (tickOf n corner)
+    ensures { λ _. ⌜ (Topped (jobsOf algebra n (now (sizes .entry)) (now (weights .entry))) (cornerTick n corner)
         (memories (now (c .entry)) (now (a .entry)) (now (b .entry))) (now (top .entry))
-        → Swept (jobsOf algebra n (now (sizes .entry)) (now (weights .entry))) (tickOf n corner)
+        → Swept (jobsOf algebra n (now (sizes .entry)) (now (weights .entry))) (cornerTick n corner)
         (memories (now (c .entry)) (now (a .entry)) (now (b .entry))) 0 (memories (now (c .exit)) (now (a .exit)) (now (b .exit)))) ⌝ }
 {
     let count = sizes.len();

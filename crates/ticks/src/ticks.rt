@@ -2,7 +2,7 @@
 ghost use mathlib.Core.Path.{_≡_};
 ghost use Prim.Native.Nat.{_+_, _*_, _<_};
 ghost use Rattle.systolic.specs.Tick.{ticked, ticks as ticksOf};
-ghost use Rattle.systolic.specs.Demand.{jobsOf};
+ghost use Rattle.job_list.specs.Jobs.{jobsOf};
 ghost use Rattle.ticks.specs.Feed.{Listed};
 ghost use Rattle.ticks.specs.Ready.{arrayOf, Ready};
 use crate::emit::emit;
@@ -25,7 +25,7 @@ pub fn tick(
     b: &mut [u16],
     results: &mut [u16],
 )
-    requires { ⌜ Ready n (t + 1) (now sizes) (now weights) (arrayOf (now c) (now a) (now b) (now results))
+    requires { ⌜ Ready (jobsOf algebra n (now sizes) (now weights)) (t + 1) (arrayOf (now c) (now a) (now b) (now results))
         × Listed (now sizes) (now starts) ⌝ }
     ensures { λ _. ⌜ arrayOf (now (c .exit)) (now (a .exit)) (now (b .exit)) (now (results .exit))
         ≡ ticked (jobsOf algebra n (now (sizes .entry)) (now (weights .entry))) t
@@ -52,7 +52,7 @@ fn ticks(
     b: &mut [u16],
     results: &mut [u16],
 )
-    requires { ⌜ Ready n (from + count) (now sizes) (now weights) (arrayOf (now c) (now a) (now b) (now results))
+    requires { ⌜ Ready (jobsOf algebra n (now sizes) (now weights)) (from + count) (arrayOf (now c) (now a) (now b) (now results))
         × Listed (now sizes) (now starts) ⌝ }
     ensures { λ _. ⌜ arrayOf (now (c .exit)) (now (a .exit)) (now (b .exit)) (now (results .exit))
         ≡ ticksOf (jobsOf algebra n (now (sizes .entry)) (now (weights .entry))) from count
@@ -89,7 +89,7 @@ pub fn advance(
     b: &mut [u16],
     results: &mut [u16],
 )
-    requires { ⌜ Ready n (from + count) (now sizes) (now weights) (arrayOf (now c) (now a) (now b) (now results)) ⌝ }
+    requires { ⌜ Ready (jobsOf algebra n (now sizes) (now weights)) (from + count) (arrayOf (now c) (now a) (now b) (now results)) ⌝ }
     ensures { λ _. ⌜ arrayOf (now (c .exit)) (now (a .exit)) (now (b .exit)) (now (results .exit))
         ≡ ticksOf (jobsOf algebra n (now (sizes .entry)) (now (weights .entry))) from count
         (arrayOf (now (c .entry)) (now (a .entry)) (now (b .entry)) (now (results .entry))) ⌝ }

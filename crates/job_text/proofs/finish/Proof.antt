@@ -1,48 +1,23 @@
+-- `job_text::finish` meets its contract: a text that ends before its list does ends early.
 use borrow.Author.Needs.{needs}
 use Rattle.job_text.proofs.finish.Statement.{statement}
 use Rattle.job_text.proofs.finish.Tie as tie
-
-enum-told : tie.Need-enum-told
-enum-told c = search needs
-
-enum-told-2 : tie.Need-enum-told-2
-enum-told-2 c = search needs
-
-enum-told-3 : tie.Need-enum-told-3
-enum-told-3 c = search needs
-
-enum-told-4 : tie.Need-enum-told-4
-enum-told-4 c = search needs
-
-enum-told-5 : tie.Need-enum-told-5
-enum-told-5 c = search needs
-
-returns : tie.Need-returns
-returns c = rw ((c .enum-told .given .1))
-
-returns-2 : tie.Need-returns-2
-returns-2 c = rw ((c .enum-told2 .given .1))
-
-returns-3 : tie.Need-returns-3
-returns-3 c = rw ((c .enum-told3 .given .1))
-
-returns-4 : tie.Need-returns-4
-returns-4 c = rw ((c .enum-told4 .given .1))
-
-returns-5 : tie.Need-returns-5
-returns-5 c = rw ((c .enum-told5 .given .1))
 
 pub finish-spec : {M : Type 1} → statement M
 finish-spec =
     tie.close
     (tie.spec
-    enum-told
-    enum-told-2
-    enum-told-3
-    enum-told-4
-    enum-told-5
-    returns
-    returns-2
-    returns-3
-    returns-4
-    returns-5)
+    (λ c. search needs)
+    (λ c κs. search needs)
+    (λ c. search needs)
+    (λ c κs. search needs)
+    (λ c. search needs)
+    (λ c κs. search needs)
+    (λ c. search needs)
+    (λ c κs. search needs)
+    (λ c. search needs)
+    (λ c. record { outcome = rw (c .before .enum-told .given .1, c .refused .ensures) })
+    (λ c. record { outcome = rw (c .before .enum-told2 .given .1, c .refused2 .ensures) })
+    (λ c. record { outcome = rw (c .before .enum-told3 .given .1, c .refused3 .ensures) })
+    (λ c. record { outcome = rw (c .before .enum-told4 .given .1, c .refused4 .ensures) })
+    (λ c. record { outcome = rw (c .enum-told5 .given .1) }))

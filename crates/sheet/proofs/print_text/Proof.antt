@@ -1,101 +1,82 @@
-use Rattle.sheet.proofs.Text.{read-list, read-refused, sizes-ready, words-within, list-accepted, list-sheet}
-use Rattle.printing.proofs.Put.{put-as}
-use lib.Seq.{length-take-le}
-use denote.Ref.{now}
+-- `print_text` meets its contract: the buffers begin with the list that was read, whose sheet is printed; or the refusal's line is.
 use mathlib.Core.Path.{sym}
+use mathlib.Core.List.{List}
+use Prim.Native.Nat.{ℕ}
+use denote.Ref.{now}
 use borrow.Author.Needs.{needs}
+use Rattle.sheet.proofs.Text.{ReadList, read-list, refusal-printed, sizes-ready, words-within, words-part, list-accepted, list-printed}
 use Rattle.sheet.proofs.print_text.Statement.{statement}
 use Rattle.sheet.proofs.print_text.Tie as tie
 
-read-requires : tie.Need-read-requires
-read-requires c κs = search needs
+-- The place where the answer is known to be a list, the reading before it, and the beginning.
+abbrev Known : Type 0
+Known = tie.After-answer
 
-enum-known-answer : tie.Need-enum-known-answer
-enum-known-answer c = search needs
+abbrev at-read : Known → tie.After-read
+at-read k = k .before .before .before .before .before .before
 
-cast-count : tie.Need-cast-count
-cast-count c = search needs
+abbrev begun : Known → tie.Start
+begun k = at-read k .before .before .before .before .before .before .before
 
-slice-reshare-prefix-words-before : tie.Need-slice-reshare-prefix-words-before
-slice-reshare-prefix-words-before c = (read-list (now (c .before .before .before .before .before .before .before .before .before .before .before .before .before .before .args .text)) (c .before .before .before .before .before .before .before .before .before .before .before .before .before .before .pre .0) (c .before .before .before .before .before .before .before .before .before .before .before .before .before .before .pre .1) (c .before .answer .given .1) (c .before .before .before .before .before .before .before .read .ensures .0) (c .before .before .before .before .before .before .before .read .ensures .1 .0) (c .before .before .before .before .before .before .before .read .ensures .1 .1)) .few
+abbrev text : Known → List ℕ
+text k = now (begun k .args .text)
 
-slice-aggregate-words-before : tie.Need-slice-aggregate-words-before
-slice-aggregate-words-before c = sym ((read-list (now (c .before .before .before .before .before .before .before .before .before .before .before .before .before .before .before .args .text)) (c .before .before .before .before .before .before .before .before .before .before .before .before .before .before .before .pre .0) (c .before .before .before .before .before .before .before .before .before .before .before .before .before .before .before .pre .1) (c .before .before .answer .given .1) (c .before .before .before .before .before .before .before .before .read .ensures .0) (c .before .before .before .before .before .before .before .before .read .ensures .1 .0) (c .before .before .before .before .before .before .before .before .read .ensures .1 .1)) .count)
+-- the list that the buffers begin with
+listed : (k : Known)
+    → ReadList (text k) (k .answer .given .0 .0) (k .answer .given .0 .1 .0) (k .answer .given .0 .1 .1 .0) (at-read k .read .last .1 .0)
+    (at-read k .read .last .1 .1 .0)
+listed k =
+    let told = at-read k .read .ensures in
+    read-list (text k) (begun k .pre) (k .answer .given .1) (told .outcome) (told .sizes-left) (told .weights-left)
 
-words-before-requires : tie.Need-words-before-requires
-words-before-requires c κs = sizes-ready (read-list (now (c .before .before .before .before .before .before .before .before .before .before .before .before .before .before .before .args .text)) (c .before .before .before .before .before .before .before .before .before .before .before .before .before .before .before .pre .0) (c .before .before .before .before .before .before .before .before .before .before .before .before .before .before .before .pre .1) (c .before .before .answer .given .1) (c .before .before .before .before .before .before .before .before .read .ensures .0) (c .before .before .before .before .before .before .before .before .read .ensures .1 .0) (c .before .before .before .before .before .before .before .before .read .ensures .1 .1))
+list-ready : tie.Need-print-list-requires
+list-ready c κs =
+    let k : Known = search needs in
+    let w : tie.After-words-before = search needs in
+    list-accepted (listed k) (w .words-before .ensures .0)
 
-cast-print-list : tie.Need-cast-print-list
-cast-print-list c = search needs
+sheet-printed : tie.Need-returns
+sheet-printed c =
+    let k : Known = search needs in
+    let w : tie.After-words-before = search needs in
+    let p : tie.After-print-list = search needs in
+    list-printed (listed k) (w .words-before .ensures .0) (p .print-list .ensures)
 
-slice-reshare-prefix-print-list : tie.Need-slice-reshare-prefix-print-list
-slice-reshare-prefix-print-list c = (read-list (now (c .before .before .before .before .before .before .before .before .before .before .before .before .before .before .before .before .before .args .text)) (c .before .before .before .before .before .before .before .before .before .before .before .before .before .before .before .before .before .pre .0) (c .before .before .before .before .before .before .before .before .before .before .before .before .before .before .before .before .before .pre .1) (c .before .before .before .before .answer .given .1) (c .before .before .before .before .before .before .before .before .before .before .read .ensures .0) (c .before .before .before .before .before .before .before .before .before .before .read .ensures .1 .0) (c .before .before .before .before .before .before .before .before .before .before .read .ensures .1 .1)) .few
-
-slice-aggregate-print-list : tie.Need-slice-aggregate-print-list
-slice-aggregate-print-list c = sym ((read-list (now (c .before .before .before .before .before .before .before .before .before .before .before .before .before .before .before .before .before .before .args .text)) (c .before .before .before .before .before .before .before .before .before .before .before .before .before .before .before .before .before .before .pre .0) (c .before .before .before .before .before .before .before .before .before .before .before .before .before .before .before .before .before .before .pre .1) (c .before .before .before .before .before .answer .given .1) (c .before .before .before .before .before .before .before .before .before .before .before .read .ensures .0) (c .before .before .before .before .before .before .before .before .before .before .before .read .ensures .1 .0) (c .before .before .before .before .before .before .before .before .before .before .before .read .ensures .1 .1)) .count)
-
-slice-reshare-prefix-print-list-2 : tie.Need-slice-reshare-prefix-print-list-2
-slice-reshare-prefix-print-list-2 c = words-within (read-list (now (c .before .before .before .before .before .before .before .before .before .before .before .before .before .before .before .before .before .before .args .text)) (c .before .before .before .before .before .before .before .before .before .before .before .before .before .before .before .before .before .before .pre .0) (c .before .before .before .before .before .before .before .before .before .before .before .before .before .before .before .before .before .before .pre .1) (c .before .before .before .before .before .answer .given .1) (c .before .before .before .before .before .before .before .before .before .before .before .read .ensures .0) (c .before .before .before .before .before .before .before .before .before .before .before .read .ensures .1 .0) (c .before .before .before .before .before .before .before .before .before .before .before .read .ensures .1 .1)) (c .before .before .words-before .ensures .0)
-
-slice-aggregate-print-list-2 : tie.Need-slice-aggregate-print-list-2
-slice-aggregate-print-list-2 c = sym (length-take-le _ _ (words-within (read-list (now (c .before .before .before .before .before .before .before .before .before .before .before .before .before .before .before .before .before .before .before .args .text)) (c .before .before .before .before .before .before .before .before .before .before .before .before .before .before .before .before .before .before .before .pre .0) (c .before .before .before .before .before .before .before .before .before .before .before .before .before .before .before .before .before .before .before .pre .1) (c .before .before .before .before .before .before .answer .given .1) (c .before .before .before .before .before .before .before .before .before .before .before .before .read .ensures .0) (c .before .before .before .before .before .before .before .before .before .before .before .before .read .ensures .1 .0) (c .before .before .before .before .before .before .before .before .before .before .before .before .read .ensures .1 .1)) (c .before .before .before .words-before .ensures .0)))
-
-print-list-requires : tie.Need-print-list-requires
-print-list-requires c κs = list-accepted (read-list (now (c .before .before .before .before .before .before .before .before .before .before .before .before .before .before .before .before .before .before .before .args .text)) (c .before .before .before .before .before .before .before .before .before .before .before .before .before .before .before .before .before .before .before .pre .0) (c .before .before .before .before .before .before .before .before .before .before .before .before .before .before .before .before .before .before .before .pre .1) (c .before .before .before .before .before .before .answer .given .1) (c .before .before .before .before .before .before .before .before .before .before .before .before .read .ensures .0) (c .before .before .before .before .before .before .before .before .before .before .before .before .read .ensures .1 .0) (c .before .before .before .before .before .before .before .before .before .before .before .before .read .ensures .1 .1)) (c .before .before .before .words-before .ensures .0)
-
-enum-known-answer-2 : tie.Need-enum-known-answer-2
-enum-known-answer-2 c = search needs
-
-put-refused-requires : tie.Need-put-refused-requires
-put-refused-requires c κs = search needs
-
-same-length : tie.Need-same-length
-same-length c = search needs
-
-same-length-2 : tie.Need-same-length-2
-same-length-2 c = search needs
-
-same-length-3 : tie.Need-same-length-3
-same-length-3 c = search needs
-
-returns : tie.Need-returns
-returns c = put-as (c .before .before .print-list .ensures) (list-sheet (read-list (now (c .before .before .before .before .before .before .before .before .before .before .before .before .before .before .before .before .before .before .before .before .before .before .args .text)) (c .before .before .before .before .before .before .before .before .before .before .before .before .before .before .before .before .before .before .before .before .before .before .pre .0) (c .before .before .before .before .before .before .before .before .before .before .before .before .before .before .before .before .before .before .before .before .before .before .pre .1) (c .before .before .before .before .before .before .before .before .before .answer .given .1) (c .before .before .before .before .before .before .before .before .before .before .before .before .before .before .before .read .ensures .0) (c .before .before .before .before .before .before .before .before .before .before .before .before .before .before .before .read .ensures .1 .0) (c .before .before .before .before .before .before .before .before .before .before .before .before .before .before .before .read .ensures .1 .1)) (c .before .before .before .before .before .before .words-before .ensures .0))
-
-same-length-4 : tie.Need-same-length-4
-same-length-4 c = search needs
-
-same-length-5 : tie.Need-same-length-5
-same-length-5 c = search needs
-
-same-length-6 : tie.Need-same-length-6
-same-length-6 c = search needs
-
-returns-2 : tie.Need-returns-2
-returns-2 c = put-as (c .before .before .put-refused .ensures) (read-refused (now (c .before .before .before .before .before .before .before .before .before .before .before .before .before .before .before .before .before .before .args .text)) (c .before .before .before .before .before .before .before .before .before .before .before .before .before .before .before .before .before .before .pre .0) (c .before .before .before .before .before .before .before .before .before .before .before .before .before .before .before .before .before .before .pre .1) (c .before .before .before .before .before .answer2 .given .1) (c .before .before .before .before .before .before .before .before .before .before .before .read .ensures .0))
+turned-back : tie.Need-returns-2
+turned-back c =
+    let asked : tie.Start = search needs in
+    let r : tie.After-read = search needs in
+    let k : tie.After-answer2 = search needs in
+    let p : tie.After-put-refused = search needs in
+    refusal-printed (now (asked .args .text)) (asked .pre) (k .answer2 .given .1) (r .read .ensures .outcome) (p .put-refused .ensures)
 
 pub print-text-spec : {M : Type 1} → statement M
 print-text-spec =
     tie.close
     (tie.spec
-    read-requires
-    enum-known-answer
-    cast-count
-    slice-reshare-prefix-words-before
-    slice-aggregate-words-before
-    words-before-requires
-    cast-print-list
-    slice-reshare-prefix-print-list
-    slice-aggregate-print-list
-    slice-reshare-prefix-print-list-2
-    slice-aggregate-print-list-2
-    print-list-requires
-    enum-known-answer-2
-    put-refused-requires
-    same-length
-    same-length-2
-    same-length-3
-    returns
-    same-length-4
-    same-length-5
-    same-length-6
-    returns-2)
+    (λ c κs. search needs)
+    (λ c. search needs)
+    (λ c. search needs)
+    -- the words of the list
+    (λ c. let k : Known = search needs in listed k .few)
+    (λ c. let k : Known = search needs in sym (listed k .count))
+    (λ c κs. let k : Known = search needs in sizes-ready (listed k))
+    -- the list
+    (λ c. search needs)
+    (λ c. let k : Known = search needs in listed k .few)
+    (λ c. let k : Known = search needs in sym (listed k .count))
+    (λ c. let k : Known = search needs in let w : tie.After-words-before = search needs in words-within (listed k) (w .words-before .ensures .0))
+    (λ c. let k : Known = search needs in let w : tie.After-words-before = search needs in words-part (listed k) (w .words-before .ensures .0))
+    list-ready
+    -- the refusal
+    (λ c. search needs)
+    (λ c κs. search needs)
+    -- the sheet
+    (λ c. search needs)
+    (λ c. search needs)
+    (λ c. search needs)
+    sheet-printed
+    (λ c. search needs)
+    (λ c. search needs)
+    (λ c. search needs)
+    turned-back)

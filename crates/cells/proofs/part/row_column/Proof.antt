@@ -1,18 +1,14 @@
+-- The point k - j is the row i where j is k - i, which is a column up to k only if i is at most k.
 use Rattle.cells.proofs.Parts.{row-late, row-past, row-here}
 use Rattle.cells.proofs.part.row_column.Statement.{statement}
 use Rattle.cells.proofs.part.row_column.Tie as tie
-use Rattle.cells.proofs.part.row_column.Reads as reads
-use Rattle.cells.proofs.part.row_column.Lts as lts
 
--- src/part.rt:79:9
 returns : tie.Need-returns
 returns c = λ j h k. row-late (c .before .args .pass) (c .before .args .i) (c .before .args .k) j (c .if1 .taken) h
 
--- src/part.rt:82:9
 returns-2 : tie.Need-returns-2
 returns-2 c = λ j h k. row-past (c .before .before .args .pass) j (c .if2 .taken) h
 
--- src/part.rt:75:1
 returns-3 : tie.Need-returns-3
 returns-3 c = λ j h k. row-here j (c .before .if1 .left) (c .if2 .left) k
 

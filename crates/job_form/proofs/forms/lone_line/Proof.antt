@@ -1,16 +1,13 @@
+-- `job_form::lone_line` meets its contract: a part more makes it unknown.
 use borrow.Author.Needs.{needs}
-use Rattle.job_form.proofs.Cuts.{parts-some, parts-none}
+use Rattle.job_form.proofs.Lines.{alone-none, alone-some}
 use Rattle.job_form.proofs.forms.lone_line.Statement.{statement}
 use Rattle.job_form.proofs.forms.lone_line.Tie as tie
 
-next-part-requires : tie.Need-next-part-requires
-next-part-requires c κs = search needs
-
-returns : tie.Need-returns
-returns c = rw (parts-some (c .before .before .next-part .ensures) (c .if1 .taken))
-
-returns-2 : tie.Need-returns-2
-returns-2 c = rw (parts-none (c .before .before .next-part .ensures) (c .if1 .left))
-
 pub lone-line-spec : {M : Type 1} → statement M
-lone-line-spec = tie.close (tie.spec next-part-requires returns returns-2)
+lone-line-spec =
+    tie.close
+    (tie.spec
+    (λ c κs. search needs)
+    (λ c. search alone-some)
+    (λ c. search alone-none))

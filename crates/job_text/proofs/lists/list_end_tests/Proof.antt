@@ -1,12 +1,12 @@
-use borrow.Author.Tests.{eq-eqb, ne-eqb}
+-- `job_text::list_end_tests` meets its contract: each return is the first test of the table that applies.
+use Rattle.refusals.proofs.First.{tests}
+use Rattle.job_text.proofs.Tables.{numbers}
 use Rattle.job_text.proofs.lists.list_end_tests.Statement.{statement}
 use Rattle.job_text.proofs.lists.list_end_tests.Tie as tie
 
-returns : tie.Need-returns
-returns c = rw (eq-eqb _ _ (c .if1 .taken))
-
-returns-2 : tie.Need-returns-2
-returns-2 c = rw (ne-eqb _ _ (c .if1 .left))
-
 pub list-end-tests-spec : {M : Type 1} → statement M
-list-end-tests-spec = tie.close (tie.spec returns returns-2)
+list-end-tests-spec =
+    tie.close
+    (tie.spec
+    (λ c. search (tests, numbers))
+    (λ c. search (tests, numbers, c .if1 .left)))

@@ -1,70 +1,22 @@
-use native.Mathlib.Nat.{mul-le-mul}
-use mathlib.Core.Path.{sym}
-use Rattle.paths.proofs.ByteCall.{front}
+-- `in_middle_room` lends the front of two middle rooms to `in_room`, which answers for it.
 use borrow.Author.Needs.{needs}
+use Rattle.paths.proofs.Rooms.{inside, width, lent}
 use Rattle.paths.proofs.host.in_middle_room.Statement.{statement}
 use Rattle.paths.proofs.host.in_middle_room.Tie as tie
-use Rattle.paths.proofs.host.in_middle_room.Reads as reads
-use Rattle.paths.proofs.host.in_middle_room.Lts as lts
-use Rattle.paths.proofs.host.in_room.Reads as in-room-reads
-use Rattle.paths.proofs.host.middle_room.Reads as middle-room-reads
-
--- src/host.rt:73:21
-middle-room-requires : tie.Need-middle-room-requires
-middle-room-requires c κs = search needs
-
--- src/host.rt:74:21
-middle-room-requires-2 : tie.Need-middle-room-requires-2
-middle-room-requires-2 c κs = search needs
-
--- src/host.rt:75:17
-mul-cells : tie.Need-mul-cells
-mul-cells c = search needs
-
--- src/host.rt:76:45
-array-borrow-prefix-words : tie.Need-array-borrow-prefix-words
-array-borrow-prefix-words c = rw (c .before .before .middle-room .ensures) (mul-le-mul (c .before .before .before .before .before .pre .size-fits) (c .before .before .before .before .before .pre .size-fits))
-
--- src/host.rt:76:45
-slice-aggregate-in-room : tie.Need-slice-aggregate-in-room
-slice-aggregate-in-room c = sym (front _ (c .before .before .before .before .before .before .pre .size-fits) (c .before .before .before .middle-room .ensures))
-
--- src/host.rt:76:66
-array-borrow-prefix-table : tie.Need-array-borrow-prefix-table
-array-borrow-prefix-table c = rw (c .before .before .middle-room2 .ensures) (mul-le-mul (c .before .before .before .before .before .before .pre .size-fits) (c .before .before .before .before .before .before .pre .size-fits))
-
--- src/host.rt:76:66
-slice-aggregate-in-room-2 : tie.Need-slice-aggregate-in-room-2
-slice-aggregate-in-room-2 c = sym (front _ (c .before .before .before .before .before .before .before .pre .size-fits) (c .before .before .before .middle-room2 .ensures))
-
--- src/host.rt:76:5
-in-room-requires : tie.Need-in-room-requires
-in-room-requires c κs = record {
-  weights-fit = c .before .before .before .before .before .before .before .pre .weights-fit;
-  result-fit = c .before .before .before .before .before .before .before .pre .result-fit;
-  words-fit = front _ (c .before .before .before .before .before .before .before .pre .size-fits) (c .before .before .before .before .middle-room .ensures);
-  table-fit = front _ (c .before .before .before .before .before .before .before .pre .size-fits) (c .before .before .before .middle-room2 .ensures);
-}
-
--- src/host.rt:68:1
-same-length : tie.Need-same-length
-same-length c = search needs
-
--- src/host.rt:68:1
-returns : tie.Need-returns
-returns c = search needs
 
 pub in-middle-room-spec : {M : Type 1} → statement M
 in-middle-room-spec =
     tie.close
     (tie.spec
-    middle-room-requires
-    middle-room-requires-2
-    mul-cells
-    array-borrow-prefix-words
-    slice-aggregate-in-room
-    array-borrow-prefix-table
-    slice-aggregate-in-room-2
-    in-room-requires
-    same-length
-    returns)
+    -- the rooms
+    (λ c κs. search needs)
+    (λ c κs. search needs)
+    (λ c. search needs)
+    -- their fronts
+    (λ c. search inside)
+    (λ c. search width)
+    (λ c. search inside)
+    (λ c. search width)
+    (λ c κs. search lent)
+    (λ c. search needs)
+    (λ c. search needs))

@@ -1,77 +1,43 @@
-use Rattle.ticks.proofs.Feeding.{fed-idle, fed-later, fed-entry}
-use Rattle.cells.proofs.Span.{spanned-same, spanned-as}
-use lib.ListN.{getD}
-use Prim.Native.Nat.{_-_}
-use mathlib.Core.Path.{sym, _∙_}
+-- A pass that feeds no job leaves the words alone, as a later pass does; in pass 0 the job's own part is fed.
 use denote.Ref.{now}
-use borrow.Author.Tests.{not-true, not-false}
 use borrow.Author.Needs.{needs}
+use Rattle.cells.proofs.Turns.{live-told, idle-told}
+use Rattle.ticks.proofs.Feeding.{part-idle, part-later, part-entry}
 use Rattle.ticks.proofs.feed.feed_part.Statement.{statement}
 use Rattle.ticks.proofs.feed.feed_part.Tie as tie
-use Rattle.ticks.proofs.feed.feed_part.Reads as reads
-use Rattle.ticks.proofs.feed.feed_part.Lts as lts
-use Rattle.ticks.proofs.feed.feed.Reads as feed-reads
-use Rattle.ticks.proofs.jobs.job_of.Reads as job-of-reads
-use Rattle.cells.proofs.live.Reads as live-reads
 
--- src/feed.rt:99:9
-live-requires : tie.Need-live-requires
-live-requires c κs = search needs
-
--- src/feed.rt:100:9
 returns : tie.Need-returns
-returns c = spanned-as spanned-same (λ j h h′. fed-idle (c .before .before .before .before .before .before .args .algebra) (now (c .before .before .before .before .before .before .args .sizes)) (now (c .before .before .before .before .before .before .args .weights)) (c .before .before .before .before .before .before .args .pass) (c .before .before .before .before .before .before .args .k - j) j (getD (now (c .before .before .before .before .before .before .args .top)) j 0) (sym (c .before .live .ensures) ∙ not-true (c .before .live .result) (c .if1 .taken)))
+returns c = search (part-idle, idle-told (c .before .live .ensures) (c .if1 .taken)) depth 12
 
--- src/feed.rt:103:9
 returns-2 : tie.Need-returns-2
-returns-2 c = spanned-as spanned-same (λ j h h′. fed-later (c .before .before .before .before .before .before .before .args .algebra) (now (c .before .before .before .before .before .before .before .args .sizes)) (now (c .before .before .before .before .before .before .before .args .weights)) (c .before .before .before .before .before .before .before .args .pass) (c .before .before .before .before .before .before .before .args .k - j) j (getD (now (c .before .before .before .before .before .before .before .args .top)) j 0) (c .if2 .taken))
+returns-2 c = search (part-later, c .if2 .taken) depth 12
 
--- src/feed.rt:105:9
 job-of-requires : tie.Need-job-of-requires
-job-of-requires c κs = (c .before .before .before .before .before .before .before .pre .0, (sym (c .before .before .live .ensures) ∙ not-false (c .before .before .live .result) (c .before .if1 .left)))
+job-of-requires c κs = search live-told depth 12
 
--- src/feed.rt:109:25
-mul-feed : tie.Need-mul-feed
-mul-feed c = search needs
-
--- src/feed.rt:109:25
-sub-feed : tie.Need-sub-feed
-sub-feed c = search needs
-
--- src/feed.rt:109:25
-part-feed-start : tie.Need-part-feed-start
-part-feed-start c = search needs
-
--- src/feed.rt:109:25
-part-feed-end : tie.Need-part-feed-end
-part-feed-end c = search needs
-
--- src/feed.rt:109:5
-feed-requires : tie.Need-feed-requires
-feed-requires c κs = search needs
-
--- src/feed.rt:84:1
-same-length : tie.Need-same-length
-same-length c = search needs
-
--- src/feed.rt:84:1
 returns-3 : tie.Need-returns-3
 returns-3 c =
-    spanned-as (c .before .before .feed .ensures)
-    (λ j h h′. fed-entry (c .before .before .before .before .before .before .before .before .before .before .before .before .before .args .algebra) (now (c .before .before .before .before .before .before .before .before .before .before .before .before .before .args .sizes)) (now (c .before .before .before .before .before .before .before .before .before .before .before .before .before .args .weights)) (c .before .before .before .before .before .before .before .before .before .before .before .before .before .args .pass) (c .before .before .before .before .before .before .before .before .before .before .before .before .before .args .k - j) j (getD (now (c .before .before .before .before .before .before .before .before .before .before .before .before .before .args .top)) j 0) (sym (c .before .before .before .before .before .before .before .before .live .ensures) ∙ not-false (c .before .before .before .before .before .before .before .before .live .result) (c .before .before .before .before .before .before .before .if1 .left)) (c .before .before .before .before .before .before .if2 .left) (c .before .before .before .before .before .job-of .ensures))
+    let at-feed = c .before .before in
+    let at-job-of = at-feed .before .before .before in
+    let at-if2 = at-job-of .before in
+    let at-if1 = at-if2 .before in
+    let at-live = at-if1 .before in
+    let args = at-live .before .before .before .before .before .args in
+    part-entry (args .algebra) (now (args .sizes)) (now (args .weights)) (args .pass) (args .k) (live-told (at-live .live .ensures) (at-if1 .if1 .left))
+    (at-if2 .if2 .left) (at-job-of .job-of .ensures) (at-feed .feed .ensures)
 
 pub feed-part-spec : {M : Type 1} → statement M
 feed-part-spec =
     tie.close
     (tie.spec
-    live-requires
+    (λ c κs. search needs)
     returns
     returns-2
     job-of-requires
-    mul-feed
-    sub-feed
-    part-feed-start
-    part-feed-end
-    feed-requires
-    same-length
+    (λ c. search needs)
+    (λ c. search needs)
+    (λ c. search needs)
+    (λ c. search needs)
+    (λ c κs. search needs)
+    (λ c. search needs)
     returns-3)

@@ -1,20 +1,16 @@
+-- Quotient and remainder by n.
 use native.Mathlib.Nat.{div-add-mod', mod-lt}
 use native.Mathlib.Omega.{arith}
 use borrow.Author.Needs.{needs}
 use Rattle.cells.proofs.turn.Turn.at.Statement.{statement}
 use Rattle.cells.proofs.turn.Turn.at.Tie as tie
-use Rattle.cells.proofs.turn.Turn.at.Reads as reads
-use Rattle.cells.proofs.turn.Turn.at.Lts as lts
 
--- src/turn.rt:18:19
 div-t3 : tie.Need-div-t3
 div-t3 c = search needs
 
--- src/turn.rt:19:20
 rem-t4 : tie.Need-rem-t4
 rem-t4 c = search needs
 
--- src/turn.rt:13:5
 returns : tie.Need-returns
 returns c = record { below = mod-lt (c .args .u) (c .pre); at = omega (arith, div-add-mod' (c .args .u) (c .args .n)) }
 

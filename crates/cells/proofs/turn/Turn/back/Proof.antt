@@ -1,28 +1,22 @@
+-- A point less, or the last point of the pass before, which there is as the step is not the first.
 use Rattle.cells.proofs.Geometry.{pass-some, pass-before}
 use native.Mathlib.Omega.{arith}
 use borrow.Author.Needs.{needs}
 use Rattle.cells.proofs.turn.Turn.back.Statement.{statement}
 use Rattle.cells.proofs.turn.Turn.back.Tie as tie
-use Rattle.cells.proofs.turn.Turn.back.Reads as reads
-use Rattle.cells.proofs.turn.Turn.back.Lts as lts
 
--- src/turn.rt:53:24
 sub-t7 : tie.Need-sub-t7
 sub-t7 c = search needs
 
--- src/turn.rt:57:23
 sub-t8 : tie.Need-sub-t8
 sub-t8 c = pass-some (c .before .args .n) (c .before .args .self .pass) (omega arith)
 
--- src/turn.rt:58:24
 sub-t9 : tie.Need-sub-t9
 sub-t9 c = search needs
 
--- src/turn.rt:44:5
 returns : tie.Need-returns
 returns c = search needs
 
--- src/turn.rt:44:5
 returns-2 : tie.Need-returns-2
 returns-2 c = record {
   below = omega arith;

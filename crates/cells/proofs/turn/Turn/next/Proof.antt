@@ -1,28 +1,22 @@
+-- A point more, or the first point of the next pass.
 use Rattle.cells.proofs.Geometry.{factor-most}
 use native.Mathlib.Omega.{arith}
 use borrow.Author.Needs.{needs}
 use Rattle.cells.proofs.turn.Turn.next.Statement.{statement}
 use Rattle.cells.proofs.turn.Turn.next.Tie as tie
-use Rattle.cells.proofs.turn.Turn.next.Reads as reads
-use Rattle.cells.proofs.turn.Turn.next.Lts as lts
 
--- src/turn.rt:30:12
 add-if1 : tie.Need-add-if1
 add-if1 c = search needs
 
--- src/turn.rt:33:24
 add-t8 : tie.Need-add-t8
 add-t8 c = search needs
 
--- src/turn.rt:37:23
 add-t9 : tie.Need-add-t9
 add-t9 c = omega (arith, factor-most (c .before .args .n) (c .before .args .self .pass) (omega arith))
 
--- src/turn.rt:24:5
 returns : tie.Need-returns
 returns c = search needs
 
--- src/turn.rt:24:5
 returns-2 : tie.Need-returns-2
 returns-2 c = search needs
 

@@ -1,0 +1,4 @@
+-- The vocabulary of inner contracts: nothing of document 01 stands here.
+pub mod Header
+pub mod Planed
+pub mod Runnable

@@ -1,0 +1,52 @@
+// Cards that expect what is wrong, each in one thing: they must be told as failed, or another card could pass by mistake.
+use crate::array_cards::makes;
+use crate::array_cards::starts;
+use crate::limit_cards::at_tick;
+use crate::limit_cards::leaves;
+use crate::listing_card::prints;
+use crate::table_cards::closes;
+use crate::verdict::tell;
+
+fn table(weight: u16, expected: u16) -> bool {
+    closes(0, 1, &[weight], &mut [1u16], &[expected])
+}
+
+fn start(number: u32) -> bool {
+    starts(1, 1, &[1u16], &[7u16], &mut [9u16; 7], number)
+}
+
+// One cell of 4 ticks in all, run to its end from the given tick; its word 0 leaves on tick 3.
+fn cell(tick: u16, ticks: u16, expected: u16) -> bool {
+    let mut state = [1u16, 1, 1, tick, 0, 0, 0];
+    let mut scratch = [9u16; 2];
+    let mut r = [9u16];
+    makes(
+        &mut state,
+        &[1u16],
+        &[7u16],
+        9,
+        &mut scratch,
+        &mut r,
+        ticks,
+        &[expected],
+    )
+}
+
+pub fn tell_all() {
+    tell(b"wrong, a table's word: ", table(0, 0));
+    tell(b"wrong, a refused table: ", table(2, 1));
+    tell(b"wrong, a start's number: ", start(6));
+    tell(b"wrong, a run's ticks: ", cell(0, 3, 0));
+    tell(b"wrong, a run's result: ", cell(0, 4, 9));
+    tell(b"wrong, a refused run: ", cell(5, 0, 9));
+    tell(
+        b"wrong, a run's state: ",
+        leaves(at_tick(5), 0, at_tick(6), 0),
+    );
+    tell(
+        b"wrong, a run's scratch: ",
+        leaves(at_tick(5), 0, at_tick(5), 9),
+    );
+    tell(b"wrong, a sheet's byte: ", prints(b"", b"(refused 17 1)\n"));
+    tell(b"wrong, a sheet's length: ", prints(b"", b"(refused 17 0)"));
+}

@@ -1,0 +1,3 @@
+-- What is claimed of the elimination.
+pub mod Refusals
+pub mod Demand

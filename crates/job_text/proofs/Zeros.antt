@@ -1,0 +1,14 @@
+-- A buffer of zeros is one that begins with no word.
+use Prim.Native.Nat.{ℕ, zero, suc}
+use mathlib.Core.Path.{_≡_, refl, ap, _∙_}
+use mathlib.Core.List.{List, [], _∷_}
+use lib.ListN.{replicate}
+use Rattle.job_form.specs.Buffer.{padded}
+use Rattle.job_text.specs.inner.States.{Cleared}
+
+zeros : (n : ℕ) → replicate n 0 ≡ padded n []
+zeros zero = refl
+zeros (suc n) = ap (λ (l : List ℕ). 0 ∷ l) (zeros n)
+
+pub zeros-cleared : {n : ℕ} {l : List ℕ} → l ≡ replicate n 0 → Cleared n l
+zeros-cleared {n} e = record { zeros = e ∙ zeros n }

@@ -1,0 +1,5 @@
+-- What is claimed of the reader.
+pub mod Insensitive
+pub mod Listing
+pub mod Whole
+pub mod Refusals

@@ -1,0 +1,2 @@
+-- What is claimed of the call on bytes.
+pub mod Host

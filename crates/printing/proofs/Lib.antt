@@ -1,4 +1,0 @@
-pub mod Joined
-pub mod Lengths
-pub mod Numerals
-pub mod Put

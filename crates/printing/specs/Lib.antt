@@ -1,5 +1,0 @@
-pub mod Joined
-pub mod Numeral
-pub mod Numerals
-pub mod Page
-pub mod Put

@@ -1,0 +1,1 @@
+// Tables of tests, of which the first that applies answers. Definitions and laws only, for the crates above.

@@ -1,0 +1,2 @@
+-- What is claimed of the algebras.
+pub mod Laws

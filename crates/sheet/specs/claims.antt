@@ -1,0 +1,4 @@
+-- What is claimed of every sheet, for a reviewer.
+pub mod Cards
+pub mod Demand
+pub mod Numbers

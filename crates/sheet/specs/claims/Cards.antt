@@ -1,0 +1,55 @@
+-- Document 01, "Bench cards": B1 to B9 in one statement, and one card more for the elimination's last pass.
+use Prim.Native.Nat.{ℕ}
+use mathlib.Core.Path.{_≡_}
+use mathlib.Core.List.{List, [], _∷_}
+use lib.ListN.{replicate}
+use Rattle.text.specs.Ascii.{ascii}
+use Rattle.semiring.specs.declared.Algebra.the-variants.{Reach, Distance, Steepest}
+use Rattle.closure.specs.Elimination.{closure, eliminated}
+use Rattle.systolic.specs.State.{stateLength}
+use Rattle.systolic.specs.Start.{stateAfterStart}
+use Rattle.systolic.specs.claims.Demand.{Runs, runs}
+use Rattle.sheet.specs.Sheet.{sheetOf}
+
+-- none, outside reach
+abbrev pub none : ℕ
+none = 65535
+
+-- "links 0→1 4, 0→2 9, 1→2 3, 2→0 1", and as reach
+unfoldable pub links3 : List ℕ
+links3 = 0 ∷ 4 ∷ 9 ∷ none ∷ 0 ∷ 3 ∷ 1 ∷ none ∷ 0 ∷ []
+
+unfoldable pub reach3 : List ℕ
+reach3 = 0 ∷ 1 ∷ 1 ∷ 0 ∷ 0 ∷ 1 ∷ 1 ∷ 0 ∷ 0 ∷ []
+
+-- 0→1 of 40000 and 1→2 of the given length
+unfoldable pub long3 : ℕ → List ℕ
+long3 x = 0 ∷ 40000 ∷ none ∷ none ∷ 0 ∷ x ∷ none ∷ none ∷ 0 ∷ []
+
+-- 0→1 only through the last point, 2
+unfoldable pub last3 : List ℕ
+last3 = 0 ∷ 9 ∷ 1 ∷ none ∷ 0 ∷ none ∷ none ∷ 2 ∷ 0 ∷ []
+
+-- One job of one point with the word 7 in an array of order 1, run once with an allowance on a result that holds 9.
+abbrev pub onePoint : ℕ → Runs
+onePoint allowance =
+    runs (1 ∷ []) (7 ∷ []) (record { allowance = allowance; scratch = 0 ∷ 0 ∷ [] } ∷ [])
+    (stateAfterStart 1 1 (1 ∷ []) (7 ∷ []) (replicate (stateLength 1) 0)) (9 ∷ [])
+
+pub record BenchCards : Type 0 where
+  pub B1 : eliminated Distance 1 (7 ∷ []) ≡ 0 ∷ []
+  pub B2 : eliminated Reach 1 (0 ∷ []) ≡ 1 ∷ []
+  pub B3 : eliminated Distance 3 links3 ≡ 0 ∷ 4 ∷ 7 ∷ 4 ∷ 0 ∷ 3 ∷ 1 ∷ 5 ∷ 0 ∷ []
+  pub B4 : eliminated Steepest 3 links3 ≡ 0 ∷ 4 ∷ 4 ∷ 3 ∷ 0 ∷ 3 ∷ 1 ∷ 4 ∷ 0 ∷ []
+  pub B5 : eliminated Reach 3 reach3 ≡ 1 ∷ 1 ∷ 1 ∷ 1 ∷ 1 ∷ 1 ∷ 1 ∷ 1 ∷ 1 ∷ []
+  pub B6 : closure Distance 3 (long3 25534) 0 2 ≡ 65534
+  pub B7 : closure Distance 3 (long3 25535) 0 2 ≡ none
+  pub last-pass : closure Distance 3 last3 0 1 ≡ 3
+  -- "N = 1, one job: its word leaves on tick 3, 4 ticks in all"
+  pub B8-before : onePoint 3 .results ≡ 9 ∷ []
+  pub B8-after : onePoint 4 .results ≡ 0 ∷ []
+  pub B8-ticks : onePoint 65535 .made ≡ 4
+  -- "the listing above"
+  pub B9 :
+      sheetOf (ascii "(list 2 distance\n(job 2\n(row 0 5)\n(row - 0)\n)\n)\n")
+      ≡ ascii "(jobs 1 ticks 10)\n(out 0 0 0 7 0)\n(out 0 0 1 8 5)\n(out 0 1 0 8 -)\n(out 0 1 1 9 0)\n"

@@ -1,0 +1,47 @@
+-- What the sheet of an accepted text shows: demands 2 and 3 on the printed page.
+use Prim.Native.Nat.{ℕ, _+_, _-_, _*_, _<_, _≤_}
+use mathlib.Core.Path.{_≡_}
+use mathlib.Core.List.{List, []}
+use lib.ListN.{length}
+use Rattle.semiring.specs.declared.Algebra.{Algebra}
+use Rattle.closure.specs.Elimination.{closure}
+use Rattle.closure.specs.claims.Demand.{Best}
+use Rattle.job_list.specs.Jobs.{Jobs, Entry, count, size, jobWeights, jobsOf}
+use Rattle.systolic.specs.Tick.{leaves}
+use Rattle.job_text.specs.Reading.{accepted, readingOf}
+use Rattle.sheet.specs.Lines.{Words, outLine, rowLines, sheet}
+use Rattle.sheet.specs.Sheet.{sheetOf}
+
+-- Each job's elimination words.
+abbrev pub closureWords : Jobs → Words
+closureWords J q = closure (J .algebra q) (size J q) (jobWeights J q)
+
+-- The claim about an accepted text that reads to the jobs J.
+pub record Shown (J : Jobs) (text : List ℕ) : Type 0 where
+  -- The sheet is that of the elimination's words, each of its own job, over demand 3's ticks.
+  pub words : sheetOf text ≡ sheet J (closureWords J) (4 * J .order * count J + 2 * J .order - 2)
+  -- Each word is attained by a way of its job, and no way betters it.
+  pub best : (q i k : ℕ) → Entry J q i k → Best (J .algebra q) (size J q) (jobWeights J q) i k (closureWords J q i k)
+  -- Each entry is printed on the tick on which it leaves, which is one of those that are made, and its row has no other line there.
+  pub tick : (q i k : ℕ) → Entry J q i k → leaves J q i k < 4 * J .order * count J + 2 * J .order - 2
+  pub line :
+      (q i k : ℕ) → Entry J q i k
+      → rowLines J (closureWords J) (leaves J q i k) i
+      ≡ outLine (J .algebra q) q i k (leaves J q i k) (closureWords J q i k)
+  -- Where no entry of a row leaves, nothing is printed.
+  pub nothing :
+      (t i : ℕ) → ((q k : ℕ) → Entry J q i k → t ≡ leaves J q i k → ⊥)
+      → rowLines J (closureWords J) t i ≡ []
+
+abbrev pub Demand-sheet : Type 0
+Demand-sheet =
+    (text : List ℕ) (order : ℕ) (a : Algebra) (sizes weights : List ℕ)
+    → readingOf 16 16384 text ≡ accepted order a sizes weights → Shown (jobsOf a order sizes weights) text
+
+-- A page's length: 21 bytes for the first line, and 26 for each of 16 times 1,024 entries.
+abbrev pub pageBytes : ℕ
+pageBytes = 426005
+
+-- It has room for every sheet.
+abbrev pub Room : Type 0
+Room = (text : List ℕ) → length (sheetOf text) ≤ pageBytes

@@ -1,0 +1,5 @@
+-- What is claimed of the array.
+pub mod Refusals
+pub mod Demand
+pub mod Corollaries
+pub mod Zero

@@ -1,0 +1,2 @@
+-- What is claimed of bytes and numerals.
+pub mod Numerals
