@@ -13,7 +13,11 @@ pub struct Tally {
     neighbours_differ: usize,
     same_hall: usize,
     largest: usize,
+    long_sheets: usize,
 }
+
+/// A sheet of more bytes than this has words of five digits nearly everywhere.
+const LONG_SHEET: usize = 390_000;
 
 impl Tally {
     pub fn count(&mut self, read: &Result<JobList, Refusal>) {
@@ -26,6 +30,10 @@ impl Tally {
             }
             Err(refusal) => self.refused[usize::from(refusal.number)] += 1,
         }
+    }
+
+    pub fn count_sheet(&mut self, sheet: &[u8]) {
+        self.long_sheets += usize::from(sheet.len() > LONG_SHEET);
     }
 
     pub fn texts(&self) -> usize {
@@ -44,6 +52,8 @@ impl Tally {
         rows.push(row("neighbours of different sizes", differ, 2_000));
         rows.push(row("one hall at two sizes", same, 1_000));
         rows.push(row("order 32 with 16 jobs", self.largest, 200));
+        let kind = format!("sheets over {LONG_SHEET} bytes");
+        rows.push(row(&kind, self.long_sheets, 90));
         rows
     }
 }

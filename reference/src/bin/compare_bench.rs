@@ -17,7 +17,7 @@ use reference::systolic::run;
 use reference::texts::border::{border_texts, LISTING};
 use reference::texts::byte_damage::{damaged_bytes, senseless_text};
 use reference::texts::damage::{damaged_text, mixed_text, NUMBERS};
-use reference::texts::lists::{largest_list, medium_list, small_list};
+use reference::texts::lists::{largest_list, longest_list, medium_list, small_list};
 use reference::texts::long::long_text;
 use reference::texts::writing::{text, Freedom};
 use std::env;
@@ -30,10 +30,11 @@ const SEED: u64 = 0x5EED_0F0A_7AB1_E003;
 /// A kind of texts, and how many of it.
 type Kind = (usize, fn(&mut Random) -> Vec<u8>);
 
-const KINDS: [Kind; 7] = [
+const KINDS: [Kind; 8] = [
     (9_000, small_text),
     (500, medium_text),
     (300, largest_text),
+    (100, longest_text),
     (600, long_text),
     (3_000, damaged_bytes),
     (3_000, mixed_text),
@@ -139,6 +140,7 @@ impl Comparison {
             }
             Err(refusal) => refused(*refusal),
         };
+        self.tally.count_sheet(&wanted);
         let pieces = match self.random.one_in(16) {
             true => self.random.between(2, 4),
             false => 1,
@@ -194,6 +196,13 @@ fn largest_text(random: &mut Random) -> Vec<u8> {
     let freedom = Freedom(random.pick(&[0, 20]));
     let list = largest_list(random, algebra);
     text(random, freedom, &list)
+}
+
+/// With no freedom, as there is no room for it.
+fn longest_text(random: &mut Random) -> Vec<u8> {
+    let algebra = random.pick(&[Algebra::Distance, Algebra::Steepest]);
+    let list = longest_list(random, algebra);
+    text(random, Freedom(0), &list)
 }
 
 /// The first line in which two prints differ.

@@ -61,6 +61,31 @@ pub fn largest_list(random: &mut Random, algebra: Algebra) -> JobList {
     list(random, algebra, MAX_ORDER.into(), MAX_JOBS, sizes, &SHORT)
 }
 
+/// The largest list with words of five digits everywhere but on the diagonal, so that its sheet is as long as a sheet gets: every way
+/// goes through one point of the job, as a text has no room for more links. (Not in reach, which has no such words.)
+pub fn longest_list(random: &mut Random, algebra: Algebra) -> JobList {
+    let points = usize::from(MAX_ORDER);
+    let mut list = JobList {
+        order: MAX_ORDER,
+        algebra,
+        sizes: vec![MAX_ORDER; MAX_JOBS],
+        weights: Vec::new(),
+    };
+    for _ in 0..MAX_JOBS {
+        let hub = random.between(0, points - 1);
+        for from in 0..points {
+            for to in 0..points {
+                let linked = from != to && (from == hub || to == hub);
+                list.weights.push(match linked {
+                    true => random.between(10_000, 32_767) as u16,
+                    false => algebra.none(),
+                });
+            }
+        }
+    }
+    list
+}
+
 pub fn list(
     random: &mut Random,
     algebra: Algebra,
