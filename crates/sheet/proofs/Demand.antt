@@ -22,7 +22,7 @@ use Rattle.job_text.proofs.Whole.{whole}
 use Rattle.text.specs.Joined.{joined}
 use Rattle.text.proofs.Joined.{joined-same}
 use Rattle.sheet.specs.Lines.{Words, jobsLine, entryLine, rowLines, sheet}
-use Rattle.sheet.specs.Sheet.{begun, wholeRun, resultWords, printed}
+use Rattle.sheet.specs.Sheet.{startedState, wholeRun, resultWords, printed}
 use Rattle.sheet.specs.claims.Demand.{closureWords, Demand-sheet}
 use Rattle.sheet.proofs.Rows.{row-empty, row-line}
 use Rattle.sheet.proofs.Run.{named, begun-tests, whole-made}
@@ -66,7 +66,7 @@ module _ {a : Algebra} {order : ℕ} {sizes weights : List ℕ} (list : ListAcce
   abbrev one : Runs
   one =
       runs sizes weights (record { allowance = 65535; scratch = replicate (scratchLength order) 0 } ∷ [])
-      (begun a order sizes weights) zeros
+      (startedState a order sizes weights) zeros
 
   word-is : (q i k : ℕ) → Entry J q i k → resultWords J (wholeRun a order sizes weights) q i k ≡ closureWords J q i k
   unfolding runs

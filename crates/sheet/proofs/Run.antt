@@ -37,7 +37,7 @@ use Rattle.text.specs.Joined.{joined}
 use Rattle.text.specs.inner.Put.{Put}
 use Rattle.text.proofs.Put.{_then_, put-as}
 use Rattle.sheet.specs.Lines.{jobsLine, sheet}
-use Rattle.sheet.specs.Sheet.{begun, wholeRun, sheetFrom}
+use Rattle.sheet.specs.Sheet.{startedState, wholeRun, sheetFrom}
 use Rattle.sheet.specs.inner.Leaving.{Printable, tickLines}
 use Rattle.sheet.specs.inner.Memory.{RunMemory}
 
@@ -75,12 +75,12 @@ module _ {a : Algebra} {order : ℕ} {sizes weights : List ℕ} (list : ListAcce
   pub begun-tests : startTests (namedOf (numberOf a)) order sizes weights (replicate (stateLength order) 0) ≡ 0
   begun-tests = start-tests (replicate (stateLength order) 0) (length-replicate {A = ℕ} (stateLength order) 0)
 
-  begun-leaves : begun a order sizes weights ≡ started (numberOf a) order sizes
+  begun-leaves : startedState a order sizes weights ≡ started (numberOf a) order sizes
   begun-leaves = start-leaves (replicate (stateLength order) 0) (length-replicate {A = ℕ} (stateLength order) 0)
 
   -- the run of a started list, whatever its scratch holds
   one-run : (scratch results : List ℕ) → length scratch ≡ scratchLength order → length results ≡ wordsOf sizes
-      → ran (begun a order sizes weights) sizes weights 65535 scratch results
+      → ran (startedState a order sizes weights) sizes weights 65535 scratch results
       ≡ (let made = min 65535 (total order (length sizes) - 0) in
       acceptedRun order (numberOf a) (length sizes) (0 + made) made scratch
       (ticks (jobsOf a order sizes weights) 0 made (record { planes = zeroPlanes order; results = results })))
@@ -98,7 +98,7 @@ module _ {a : Algebra} {order : ℕ} {sizes weights : List ℕ} (list : ListAcce
       ∙ omega (arith, total-most (list .fits .ranged .most) (list .fits .ranged .few))
 
   -- It is accepted, and leaves what the whole run leaves.
-  run-whole : {state results : List ℕ} (scratch : List ℕ) → state ≡ begun a order sizes weights → length scratch ≡ scratchLength order
+  run-whole : {state results : List ℕ} (scratch : List ℕ) → state ≡ startedState a order sizes weights → length scratch ≡ scratchLength order
       → results ≡ replicate (wordsOf sizes) 0
       → (ran state sizes weights 65535 scratch results .number ≡ 0)
       × (ran state sizes weights 65535 scratch results .made ≡ wholeRun a order sizes weights .made)

@@ -12,13 +12,13 @@ use Rattle.job_text.specs.Reading.{Reading, refused, accepted, readingOf}
 use Rattle.sheet.specs.Lines.{Words, refusedLine, sheet}
 
 -- What start leaves in a state of zeros.
-abbrev pub begun : Algebra → ℕ → List ℕ → List ℕ → List ℕ
-begun a order sizes weights = stateAfterStart (numberOf a) order sizes weights (replicate (stateLength order) 0)
+abbrev pub startedState : Algebra → ℕ → List ℕ → List ℕ → List ℕ
+startedState a order sizes weights = stateAfterStart (numberOf a) order sizes weights (replicate (stateLength order) 0)
 
 -- The whole run of a list: from what start leaves, with the largest allowance, which is above every list's total.
 abbrev pub wholeRun : Algebra → ℕ → List ℕ → List ℕ → Ran
 wholeRun a order sizes weights =
-    ran (begun a order sizes weights) sizes weights 65535 (replicate (scratchLength order) 0) (replicate (wordsOf sizes) 0)
+    ran (startedState a order sizes weights) sizes weights 65535 (replicate (scratchLength order) 0) (replicate (wordsOf sizes) 0)
 
 -- The words that a run left in the results.
 abbrev pub resultWords : Jobs → Ran → Words
