@@ -24,17 +24,17 @@ fn printed(text: &str) -> String {
 #[test]
 fn listing() {
     let wanted =
-        "(jobs 1 ticks 10)\n(out 0 0 0 7 0)\n(out 0 0 1 8 5)\n(out 0 1 0 8 -)\n(out 0 1 1 9 0)\n";
+        "(jobs 1 ticks 10)\n(out 0 0 0 2 7 0)\n(out 0 0 1 2 8 5)\n(out 0 1 0 2 8 -)\n(out 0 1 1 2 9 0)\n";
     assert_eq!(printed(LISTING), wanted);
 }
 
 /// B8, and none and 0 in reach.
 #[test]
 fn one_point() {
-    let wanted = "(jobs 1 ticks 4)\n(out 0 0 0 3 1)\n";
+    let wanted = "(jobs 1 ticks 4)\n(out 0 0 0 1 3 1)\n";
     assert_eq!(printed("(list 1 reach\n(job 1\n(row 0)\n)\n)"), wanted);
     let wanted =
-        "(jobs 1 ticks 10)\n(out 0 0 0 7 1)\n(out 0 0 1 8 0)\n(out 0 1 0 8 1)\n(out 0 1 1 9 1)\n";
+        "(jobs 1 ticks 10)\n(out 0 0 0 2 7 1)\n(out 0 0 1 2 8 0)\n(out 0 1 0 2 8 1)\n(out 0 1 1 2 9 1)\n";
     let text = "(list 2 reach\n(job 2\n(row 0 0)\n(row 1 0)\n)\n)";
     assert_eq!(printed(text), wanted);
 }
@@ -46,9 +46,9 @@ fn jobs_of_two_sizes() {
     let second = "(job 2\n(row 9 4)\n(row - 9)\n)\n";
     let text = format!("(list 3 distance\n{first}{second})\n");
     let wanted = "(jobs 2 ticks 28)\n\
-        (out 0 0 0 11 0)\n(out 0 0 1 12 4)\n(out 0 1 0 12 4)\n(out 0 0 2 13 7)\n(out 0 1 1 13 0)\n\
-        (out 0 2 0 13 1)\n(out 0 1 2 14 3)\n(out 0 2 1 14 5)\n(out 0 2 2 15 0)\n\
-        (out 1 0 0 23 0)\n(out 1 0 1 24 4)\n(out 1 1 0 24 -)\n(out 1 1 1 25 0)\n";
+        (out 0 0 0 3 11 0)\n(out 0 0 1 3 12 4)\n(out 0 1 0 3 12 4)\n(out 0 0 2 3 13 7)\n(out 0 1 1 3 13 0)\n\
+        (out 0 2 0 3 13 1)\n(out 0 1 2 3 14 3)\n(out 0 2 1 3 14 5)\n(out 0 2 2 3 15 0)\n\
+        (out 1 0 0 2 23 0)\n(out 1 0 1 2 24 4)\n(out 1 1 0 2 24 -)\n(out 1 1 1 2 25 0)\n";
     assert_eq!(printed(&text), wanted);
 }
 

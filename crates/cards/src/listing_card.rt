@@ -14,6 +14,6 @@ pub fn prints(text: &[u8], printed: &[u8]) -> bool {
 pub fn listing() -> bool {
     let text = b"(list 2 distance\n(job 2\n(row 0 5)\n(row - 0)\n)\n)\n";
     let printed =
-        b"(jobs 1 ticks 10)\n(out 0 0 0 7 0)\n(out 0 0 1 8 5)\n(out 0 1 0 8 -)\n(out 0 1 1 9 0)\n";
+        b"(jobs 1 ticks 10)\n(out 0 0 0 2 7 0)\n(out 0 0 1 2 8 5)\n(out 0 1 0 2 8 -)\n(out 0 1 1 2 9 0)\n";
     prints(text, printed)
 }

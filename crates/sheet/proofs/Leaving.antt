@@ -34,7 +34,7 @@ module _ (a : Algebra) (l : Leaving) (part : List ℕ) (i : ℕ) (page : List �
   row-past h g = put-as put-none (rw (le-leb i (l .sum) h, le-ltb (l .sum - i) (l .size) g))
 
   pub row-printed : (page′ : List ℕ) (next : ℕ) → i ≤ l .sum → l .sum - i < l .size
-      → Put page at (outLine a (l .job) i (l .sum - i) (l .tick) (getD part (i * l .size + (l .sum - i)) 0)) page′ next
+      → Put page at (outLine a (l .job) i (l .sum - i) (l .size) (l .tick) (getD part (i * l .size + (l .sum - i)) 0)) page′ next
       → Put page at (leavingLine a l part i) page′ next
   unfolding leavingLine
   row-printed page′ next h g p = put-as p (rw (le-leb i (l .sum) h, lt-ltb (l .sum - i) (l .size) g))

@@ -7,5 +7,6 @@ pub mod Room
 pub mod Rounds
 pub mod Rows
 pub mod Run
+pub mod Sizes
 pub mod Text
 pub mod Words

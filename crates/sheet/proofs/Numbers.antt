@@ -128,6 +128,7 @@ list-numbers text order a sizes weights e =
     record {
       jobs = numerals (length sizes) (omega (arith, within .few));
       ticks = numerals (total order (length sizes)) (omega (arith, short));
+      sizes = λ q h. let (least, most) = list .fits .sizes-fit q h in numerals (size J q) (omega (arith, within .most));
       places = λ q i k at.
           let fits : size J q ≤ order = list .fits .sizes-fit q (at .job) .1 in (
             numerals q (omega (arith, at .job, within .few)),

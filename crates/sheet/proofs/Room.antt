@@ -54,10 +54,11 @@ word-length Reach w = numeral-most 5 w
 word-length Distance w = dash-length w (noneOf Distance)
 word-length Steepest w = dash-length w (noneOf Steepest)
 
-out-length : (a : Algebra) (q i k t w : ℕ) → q < 100 → i < 100 → k < 100 → t < 10000 → length (outLine a q i k t w) ≤ 26
-out-length a q i k t w hq hi hk ht =
+out-length : (a : Algebra) (q i k n t w : ℕ) → q < 100 → i < 100 → k < 100 → n < 100 → t < 10000
+    → length (outLine a q i k n t w) ≤ 29
+out-length a q i k n t w hq hi hk hn ht =
     simp length-append
-    (omega (arith, two-digits q hq, two-digits i hi, two-digits k hk, four-digits t ht, word-length a w))
+    (omega (arith, two-digits q hq, two-digits i hi, two-digits k hk, two-digits n hn, four-digits t ht, word-length a w))
 
 -- The lines of jobs that fit an array of order at most 32.
 module _ (J : Jobs) (word : Words) (list : ListFits J) (ticks : ℕ) (short : ticks ≤ 2110) where
@@ -68,42 +69,43 @@ module _ (J : Jobs) (word : Words) (list : ListFits J) (ticks : ℕ) (short : ti
   size-most q h = let (least, most) = list .sizes-fit q h in omega (arith, order-most)
 
   entry-length : (t i q k : ℕ) → t < ticks → i < J .order → q < count J → k < size J q
-      → length (entryLine J word t i q k) ≤ cond (eqb t (leaves J q i k)) 26 0
+      → length (entryLine J word t i q k) ≤ cond (eqb t (leaves J q i k)) 29 0
   entry-length t i q k ht hi hq hk = by (ℕ-discrete t (leaves J q i k)) (ltb i (size J q))
     where
       by : Dec (t ≡ leaves J q i k) → (b : Bool)
-          → length (cond (b && eqb t (leaves J q i k)) (outLine (J .algebra q) q i k t (word q i k)) [])
-          ≤ cond (eqb t (leaves J q i k)) 26 0
+          → length (cond (b && eqb t (leaves J q i k)) (outLine (J .algebra q) q i k (size J q) t (word q i k)) [])
+          ≤ cond (eqb t (leaves J q i k)) 29 0
       by (yes e) true =
           rw (eq-eqb t (leaves J q i k) e)
-          (out-length (J .algebra q) q i k t (word q i k)
-          (omega (arith, list .ranged .few)) (omega (arith, order-most)) (omega (arith, size-most q hq)) (omega arith))
+          (out-length (J .algebra q) q i k (size J q) t (word q i k)
+          (omega (arith, list .ranged .few)) (omega (arith, order-most)) (omega (arith, size-most q hq)) (omega (arith, size-most q hq))
+          (omega arith))
       by (yes e) false = rw (eq-eqb t (leaves J q i k) e) (omega arith)
       by (no e) b = rw (ne-eqb t (leaves J q i k) e, and-false b) (omega arith)
 
   -- over all ticks: an entry, the entries of row i of job q, the rows i of all jobs, all rows
-  entry-sum : (i q k : ℕ) → i < J .order → q < count J → k < size J q → sum ticks (λ t. length (entryLine J word t i q k)) ≤ 26
+  entry-sum : (i q k : ℕ) → i < J .order → q < count J → k < size J q → sum ticks (λ t. length (entryLine J word t i q k)) ≤ 29
   entry-sum i q k hi hq hk =
       le-trans
-      (sum-below ticks (λ t. length (entryLine J word t i q k)) (λ t. cond (eqb t (leaves J q i k)) 26 0)
+      (sum-below ticks (λ t. length (entryLine J word t i q k)) (λ t. cond (eqb t (leaves J q i k)) 29 0)
       (λ t ht. entry-length t i q k ht hi hq hk))
-      (sum-once ticks (leaves J q i k) 26)
+      (sum-once ticks (leaves J q i k) 29)
 
-  job-sum : (i q : ℕ) → i < J .order → q < count J → sum ticks (λ t. length (joined (size J q) (entryLine J word t i q))) ≤ 32 * 26
+  job-sum : (i q : ℕ) → i < J .order → q < count J → sum ticks (λ t. length (joined (size J q) (entryLine J word t i q))) ≤ 32 * 29
   job-sum i q hi hq =
-      le-trans (joined-sums ticks (size J q) (λ t. entryLine J word t i q) 26 (λ k hk. entry-sum i q k hi hq hk))
+      le-trans (joined-sums ticks (size J q) (λ t. entryLine J word t i q) 29 (λ k hk. entry-sum i q k hi hq hk))
       (omega (arith, size-most q hq))
 
-  row-sum : (i : ℕ) → i < J .order → sum ticks (λ t. length (rowLines J word t i)) ≤ 16 * (32 * 26)
+  row-sum : (i : ℕ) → i < J .order → sum ticks (λ t. length (rowLines J word t i)) ≤ 16 * (32 * 29)
   row-sum i hi =
       le-trans
-      (joined-sums ticks (count J) (λ t q. joined (size J q) (entryLine J word t i q)) (32 * 26) (λ q hq. job-sum i q hi hq))
+      (joined-sums ticks (count J) (λ t q. joined (size J q) (entryLine J word t i q)) (32 * 29) (λ q hq. job-sum i q hi hq))
       (omega (arith, list .ranged .few))
 
-  lines-length : length (joined ticks (λ t. joined (J .order) (rowLines J word t))) ≤ 32 * (16 * (32 * 26))
+  lines-length : length (joined ticks (λ t. joined (J .order) (rowLines J word t))) ≤ 32 * (16 * (32 * 29))
   lines-length =
       rw (joined-length ticks (λ t. joined (J .order) (rowLines J word t)))
-      (le-trans (joined-sums ticks (J .order) (λ t. rowLines J word t) (16 * (32 * 26)) (λ i hi. row-sum i hi))
+      (le-trans (joined-sums ticks (J .order) (λ t. rowLines J word t) (16 * (32 * 29)) (λ i hi. row-sum i hi))
       (omega (arith, order-most)))
 
   sheet-length : length (sheet J word ticks) ≤ pageBytes

@@ -41,7 +41,7 @@ module _ (J : Jobs) (word : Words) (t i : ℕ) where
       (λ k hk. entry-empty q k (λ hi. none q k (record { job = hq; row = hi; column = hk }))))
 
   pub row-line : ListFits J → {q k : ℕ} → Entry J q i k → t ≡ leaves J q i k
-      → rowLines J word t i ≡ outLine (J .algebra q) q i k t (word q i k)
+      → rowLines J word t i ≡ outLine (J .algebra q) q i k (size J q) t (word q i k)
   row-line fits {q} {k} at e =
       joined-one (count J) (λ q′. joined (size J q′) (entryLine J word t i q′)) q (at .job)
       (λ q′ hq d.

@@ -26,11 +26,15 @@ shownWord Reach w = shown w
 shownWord Distance w = cond (eqb w (noneOf Distance)) (ascii "-") (shown w)
 shownWord Steepest w = cond (eqb w (noneOf Steepest)) (ascii "-") (shown w)
 
--- "Then job, row, column, tick, word"
-abbrev pub outLine : Algebra → ℕ → ℕ → ℕ → ℕ → ℕ → List ℕ
-outLine a q i k t w =
-    ascii "(out " ++ shown q ++ ascii " " ++ shown i ++ ascii " " ++ shown k ++ ascii " " ++ shown t ++ ascii " " ++ shownWord a w
-    ++ ascii ")\n"
+-- A number after a space.
+abbrev pub spaced : ℕ → List ℕ
+spaced n = ascii " " ++ shown n
+
+-- "Then job, row, column, tick, word", and document 02, K1: "Each `out` line gets the job's size after the column." So job q, row i,
+-- column k, size n, tick t, word w.
+abbrev pub outLine : Algebra → ℕ → ℕ → ℕ → ℕ → ℕ → ℕ → List ℕ
+outLine a q i k n t w =
+    ascii "(out" ++ spaced q ++ spaced i ++ spaced k ++ spaced n ++ spaced t ++ ascii " " ++ shownWord a w ++ ascii ")\n"
 
 -- The words printed: entry (i, k) of job q.
 abbrev pub Words : Type 0
@@ -39,7 +43,7 @@ Words = ℕ → ℕ → ℕ → ℕ
 module _ (J : Jobs) (word : Words) where
   -- The line of entry (i, k) of job q, if it leaves on tick t.
   abbrev pub entryLine : ℕ → ℕ → ℕ → ℕ → List ℕ
-  entryLine t i q k = cond (ltb i (size J q) && eqb t (leaves J q i k)) (outLine (J .algebra q) q i k t (word q i k)) []
+  entryLine t i q k = cond (ltb i (size J q) && eqb t (leaves J q i k)) (outLine (J .algebra q) q i k (size J q) t (word q i k)) []
 
   -- What leaves from row i on tick t.
   abbrev pub rowLines : ℕ → ℕ → List ℕ

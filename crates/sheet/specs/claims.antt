@@ -2,3 +2,4 @@
 pub mod Cards
 pub mod Demand
 pub mod Numbers
+pub mod Sizes

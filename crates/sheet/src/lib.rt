@@ -18,7 +18,7 @@ use lines::put_refused;
 use list::print_list;
 
 // Room for every sheet: the claim `Room`.
-pub const PAGE_BYTES: usize = 426005;
+pub const PAGE_BYTES: usize = 475157;
 
 // With buffers for the text's sizes and weights.
 fn print_text(text: &[u8], page: &mut [u8], sizes: &mut [u16], weights: &mut [u16]) -> usize

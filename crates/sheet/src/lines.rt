@@ -4,18 +4,19 @@ ghost use lib.Dec.{eqb};
 ghost use Rattle.text.specs.Ascii.{ascii};
 ghost use Rattle.text.specs.Numeral.{shown};
 ghost use Rattle.text.specs.inner.Put.{Put};
-ghost use Rattle.sheet.specs.Lines.{refusedLine, jobsLine, shownWord, outLine};
+ghost use Rattle.sheet.specs.Lines.{refusedLine, jobsLine, shownWord, spaced, outLine};
 use semiring::Algebra;
 use semiring::Distance;
 use semiring::Steepest;
 use text::put_number;
 use text::put_text;
 
-// An entry of a job, and the tick on which it leaves.
+// An entry of a job, the job's size and the tick on which the entry leaves.
 pub struct Entry {
     pub job: u32,
     pub row: u32,
     pub column: u32,
+    pub size: u32,
     pub tick: u32,
 }
 
@@ -62,18 +63,24 @@ fn put_word(page: &mut [u8], at: usize, algebra: Algebra, word: u16) -> usize
     }
 }
 
+// A number after a space.
+fn put_spaced(page: &mut [u8], at: usize, n: u32) -> usize
+    ensures { λ r. ⌜ Put (now (page .entry)) at (spaced n) (now (page .exit)) r ⌝ }
+{
+    let at = put_text(page, at, b" ");
+    put_number(page, at, n)
+}
+
 // The line of an entry and its word.
 pub fn put_entry(page: &mut [u8], at: usize, algebra: Algebra, e: Entry, word: u16) -> usize
-    ensures { λ r. ⌜ Put (now (page .entry)) at (outLine algebra (e .job) (e .row) (e .column) (e .tick) word) (now (page .exit)) r ⌝ }
+    ensures { λ r. ⌜ Put (now (page .entry)) at (outLine algebra (e .job) (e .row) (e .column) (e .size) (e .tick) word) (now (page .exit)) r ⌝ }
 {
-    let at = put_text(page, at, b"(out ");
-    let at = put_number(page, at, e.job);
-    let at = put_text(page, at, b" ");
-    let at = put_number(page, at, e.row);
-    let at = put_text(page, at, b" ");
-    let at = put_number(page, at, e.column);
-    let at = put_text(page, at, b" ");
-    let at = put_number(page, at, e.tick);
+    let at = put_text(page, at, b"(out");
+    let at = put_spaced(page, at, e.job);
+    let at = put_spaced(page, at, e.row);
+    let at = put_spaced(page, at, e.column);
+    let at = put_spaced(page, at, e.size);
+    let at = put_spaced(page, at, e.tick);
     let at = put_text(page, at, b" ");
     let at = put_word(page, at, algebra, word);
     put_text(page, at, b")\n")

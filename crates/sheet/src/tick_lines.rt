@@ -40,6 +40,7 @@ fn put_row(
         job: l.job as u32,
         row: i as u32,
         column: k as u32,
+        size: l.size as u32,
         tick: l.tick as u32,
     };
     put_entry(page, at, algebra, entry, part[place])

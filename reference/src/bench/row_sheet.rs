@@ -24,7 +24,7 @@ fn accepted(list: &JobList) -> Vec<u8> {
     let mut array = RowArray::start(list.order.into(), list.algebra, list.sizes.len());
     let mut results = vec![0; list.weights.len()];
     let ticks = array.run(65_535, &lent, &mut results);
-    let mut printed = Vec::with_capacity(64 + 26 * results.len());
+    let mut printed = Vec::with_capacity(64 + 29 * results.len());
     print(
         &mut printed,
         format_args!("(jobs {} ticks {ticks})\n", list.sizes.len()),
@@ -44,7 +44,7 @@ fn print_job(printed: &mut Vec<u8>, list: &JobList, job: usize, part: &[u16]) {
             let word = written(list.algebra, part[row * size + column]);
             print(
                 printed,
-                format_args!("(out {job} {row} {column} {tick} {word})\n"),
+                format_args!("(out {job} {row} {column} {size} {tick} {word})\n"),
             );
         }
     }

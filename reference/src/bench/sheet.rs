@@ -1,4 +1,5 @@
-//! What the bench program prints, as the end of "Job text and bench program" in document 01 has it.
+//! What the bench program prints, as the end of "Job text and bench program" in document 01 has it, with K1 of document 02: the
+//! job's size after the column.
 
 use crate::algebra::Algebra;
 use crate::job_text::{read, JobList, Refusal};
@@ -28,7 +29,8 @@ pub fn accepted(list: &JobList, outcome: &Outcome) -> Vec<u8> {
         let size = usize::from(list.sizes[job]);
         let word = outcome.results[starts[job] + row * size + column];
         let word = written(list.algebra, word);
-        printed += &format!("(out {job} {row} {column} {} {word})\n", leaving.tick);
+        let tick = leaving.tick;
+        printed += &format!("(out {job} {row} {column} {size} {tick} {word})\n");
     }
     printed.into_bytes()
 }

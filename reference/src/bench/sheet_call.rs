@@ -6,7 +6,7 @@ extern "C" {
 }
 
 /// Room for every sheet.
-pub const PAGE: usize = 426_005;
+pub const PAGE: usize = 475_157;
 
 /// Prints the sheet of a text on the page and returns its length.
 #[cfg(sheet_archive)]

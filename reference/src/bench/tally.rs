@@ -1,7 +1,7 @@
 //! What a comparison of texts has met, so that it cannot pass with one kind of text alone.
 
 use crate::job_text::{JobList, Refusal};
-use crate::texts::lists::{has_same_hall, is_largest, neighbours_differ};
+use crate::texts::lists::{has_same_hall, has_stage, is_largest, neighbours_differ};
 
 /// The refusals that a text can meet through the program.
 pub const NUMBERS: [u16; 9] = [5, 6, 7, 8, 13, 14, 15, 16, 17];
@@ -10,6 +10,7 @@ pub const NUMBERS: [u16; 9] = [5, 6, 7, 8, 13, 14, 15, 16, 17];
 pub struct Tally {
     accepted: usize,
     refused: [usize; 18],
+    stages: usize,
     neighbours_differ: usize,
     same_hall: usize,
     largest: usize,
@@ -17,13 +18,14 @@ pub struct Tally {
 }
 
 /// A sheet of more bytes than this has words of five digits nearly everywhere.
-const LONG_SHEET: usize = 390_000;
+const LONG_SHEET: usize = 439_000;
 
 impl Tally {
     pub fn count(&mut self, read: &Result<JobList, Refusal>) {
         match read {
             Ok(list) => {
                 self.accepted += 1;
+                self.stages += usize::from(has_stage(list));
                 self.neighbours_differ += usize::from(neighbours_differ(list));
                 self.same_hall += usize::from(has_same_hall(list));
                 self.largest += usize::from(is_largest(list));
@@ -48,6 +50,7 @@ impl Tally {
             let met = self.refused[usize::from(number)];
             rows.push(row(&format!("refused with {number}"), met, 100));
         }
+        rows.push(row("a job below the order", self.stages, 5_000));
         let (differ, same) = (self.neighbours_differ, self.same_hall);
         rows.push(row("neighbours of different sizes", differ, 2_000));
         rows.push(row("one hall at two sizes", same, 1_000));

@@ -142,6 +142,11 @@ pub fn is_largest(list: &JobList) -> bool {
     list.order == MAX_ORDER && list.sizes.len() == MAX_JOBS
 }
 
+/// Whether some job has fewer points than the array's order.
+pub fn has_stage(list: &JobList) -> bool {
+    list.sizes.iter().any(|&size| size < list.order)
+}
+
 /// Whether some job has another size than the one before it.
 pub fn neighbours_differ(list: &JobList) -> bool {
     list.sizes.windows(2).any(|pair| pair[0] != pair[1])

@@ -49,7 +49,7 @@ pub record BenchCards : Type 0 where
   pub B8-before : onePoint 3 .results ≡ 9 ∷ []
   pub B8-after : onePoint 4 .results ≡ 0 ∷ []
   pub B8-ticks : onePoint 65535 .made ≡ 4
-  -- "the listing above"
+  -- "the listing above", with K1's sizes
   pub B9 :
       sheetOf (ascii "(list 2 distance\n(job 2\n(row 0 5)\n(row - 0)\n)\n)\n")
-      ≡ ascii "(jobs 1 ticks 10)\n(out 0 0 0 7 0)\n(out 0 0 1 8 5)\n(out 0 1 0 8 -)\n(out 0 1 1 9 0)\n"
+      ≡ ascii "(jobs 1 ticks 10)\n(out 0 0 0 2 7 0)\n(out 0 0 1 2 8 5)\n(out 0 1 0 2 8 -)\n(out 0 1 1 2 9 0)\n"

@@ -22,12 +22,13 @@ pub record Shown (J : Jobs) (text : List ℕ) : Type 0 where
   pub words : sheetOf text ≡ sheet J (closureWords J) (4 * J .order * count J + 2 * J .order - 2)
   -- Each word is attained by a way of its job, and no way betters it.
   pub best : (q i k : ℕ) → Entry J q i k → Best (J .algebra q) (size J q) (jobWeights J q) i k (closureWords J q i k)
-  -- Each entry is printed on the tick on which it leaves, which is one of those that are made, and its row has no other line there.
+  -- Each entry is printed on the tick on which it leaves, which is one of those that are made, and its row has no other line there. The
+  -- size beside the word is that of the job whose word it is.
   pub tick : (q i k : ℕ) → Entry J q i k → leaves J q i k < 4 * J .order * count J + 2 * J .order - 2
   pub line :
       (q i k : ℕ) → Entry J q i k
       → rowLines J (closureWords J) (leaves J q i k) i
-      ≡ outLine (J .algebra q) q i k (leaves J q i k) (closureWords J q i k)
+      ≡ outLine (J .algebra q) q i k (size J q) (leaves J q i k) (closureWords J q i k)
   -- Where no entry of a row leaves, nothing is printed.
   pub nothing :
       (t i : ℕ) → ((q k : ℕ) → Entry J q i k → t ≡ leaves J q i k → ⊥)
@@ -38,9 +39,9 @@ Demand-sheet =
     (text : List ℕ) (order : ℕ) (a : Algebra) (sizes weights : List ℕ)
     → readingOf 16 16384 text ≡ accepted order a sizes weights → Shown (jobsOf a order sizes weights) text
 
--- A page's length: 21 bytes for the first line, and 26 for each of 16 times 1,024 entries.
+-- A page's length: 21 bytes for the first line, and 29 for each of 16 times 1,024 entries.
 abbrev pub pageBytes : ℕ
-pageBytes = 426005
+pageBytes = 475157
 
 -- It has room for every sheet.
 abbrev pub Room : Type 0

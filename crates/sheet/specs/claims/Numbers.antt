@@ -1,9 +1,9 @@
 -- Every number on a sheet is shown whole, by the numeral that a reader of decimal digits takes for it.
-use Prim.Native.Nat.{ℕ, _+_, _-_, _*_}
+use Prim.Native.Nat.{ℕ, _+_, _-_, _*_, _<_}
 use mathlib.Core.Path.{_≡_}
 use mathlib.Core.List.{List}
 use Rattle.semiring.specs.declared.Algebra.{Algebra}
-use Rattle.job_list.specs.Jobs.{Jobs, count, jobsOf, Entry}
+use Rattle.job_list.specs.Jobs.{Jobs, count, size, jobsOf, Entry}
 use Rattle.systolic.specs.Tick.{leaves}
 use Rattle.text.specs.Numeral.{shown}
 use Rattle.text.specs.claims.Numerals.{NumeralOf}
@@ -22,6 +22,7 @@ Refusal-numbers = (text : List ℕ) (r : Refusal) → readingOf 16 16384 text �
 pub record ListNumbers (J : Jobs) : Type 0 where
   pub jobs : ShownWhole (count J)
   pub ticks : ShownWhole (4 * J .order * count J + 2 * J .order - 2)
+  pub sizes : (q : ℕ) → q < count J → ShownWhole (size J q)
   pub places : (q i k : ℕ) → Entry J q i k → ShownWhole q × ShownWhole i × ShownWhole k
   pub tick : (q i k : ℕ) → Entry J q i k → ShownWhole (leaves J q i k)
   pub words : (q i k : ℕ) → Entry J q i k → ShownWhole (closureWords J q i k)

@@ -16,7 +16,7 @@ use Rattle.sheet.specs.Lines.{outLine, rowLines}
 unfoldable pub leavingLine : Algebra → Leaving → List ℕ → ℕ → List ℕ
 leavingLine a l part i =
     cond (leb i (l .sum) && ltb (l .sum - i) (l .size))
-    (outLine a (l .job) i (l .sum - i) (l .tick) (getD part (i * l .size + (l .sum - i)) 0))
+    (outLine a (l .job) i (l .sum - i) (l .size) (l .tick) (getD part (i * l .size + (l .sum - i)) 0))
     []
 
 pub record LeavingFits (l : Leaving) (part : List ℕ) : Type 0 where

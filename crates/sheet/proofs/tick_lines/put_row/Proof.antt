@@ -16,6 +16,7 @@ put-row-spec =
     (λ c. search needs)
     (λ c. search needs)
     (λ c. search needs)
+    (λ c. search needs)
     (λ c. let s : tie.Start = search needs in let e : tie.Else2 = search needs in bytes-room (s .pre) (e .if2 .left))
     (λ c. let s : tie.Start = search needs in let e : tie.Else2 = search needs in place-within (s .pre) (e .if2 .left))
     (λ c κs. search needs)

@@ -1,0 +1,83 @@
+-- A line tells its job's size: cut at its spaces, it has the size's numeral as its fifth part.
+use Prim.Native.Nat.{ℕ, suc, _<_, _≤_}
+use Prim.Native.Char.{code}
+use native.Mathlib.Omega.{arith}
+use mathlib.Core.Path.{_≡_, refl, sym, ap, _∙_}
+use mathlib.Core.List.{List, [], _∷_, _++_, append-assoc}
+use lib.ListN.{length, getD}
+use borrow.Author.Tests.{ne-eqb}
+use Rattle.semiring.specs.declared.Algebra.{Algebra}
+use Rattle.job_list.specs.Jobs.{Jobs, Entry, size}
+use Rattle.job_list.specs.Fits.{ListAccepted}
+use Rattle.systolic.specs.Tick.{leaves}
+use Rattle.text.specs.Ascii.{ascii}
+use Rattle.text.specs.Pieces.{Piece, cut, placed, parts}
+use Rattle.text.specs.Numeral.{decimal, shown}
+use Rattle.text.specs.claims.Numerals.{NumeralOf}
+use Rattle.text.proofs.Numerals.{numerals}
+use Rattle.text.proofs.Runs.{parts-space}
+use Rattle.sheet.specs.Lines.{shownWord, spaced, outLine}
+use Rattle.sheet.specs.claims.Demand.{closureWords}
+use Rattle.sheet.specs.claims.Sizes.{printedEntry, Told-apart}
+use Rattle.sheet.proofs.Rows.{row-line}
+
+-- Bytes from 48 on, as digits are, have no space among them.
+cut-digits : (at b : ℕ) (l : List ℕ) → ((p : ℕ) → p < suc (length l) → 48 ≤ getD (b ∷ l) p 0)
+    → cut (code " ") at (b ∷ l) ≡ record { at = at; bytes = b ∷ l } ∷ []
+unfolding cut
+cut-digits at b [] digits = rw (ne-eqb b (code " ") (λ e. omega (arith, digits 0 (omega arith))))
+cut-digits at b (c ∷ l) digits =
+    rw (ne-eqb b (code " ") (λ e. omega (arith, digits 0 (omega arith))), cut-digits (suc at) c l (λ p h. digits (suc p) (omega arith)))
+
+numeral-part : {n : ℕ} (l : List ℕ) → NumeralOf n l → parts l ≡ l ∷ []
+unfolding parts placed
+numeral-part [] is = absurd (omega (arith, is .some))
+numeral-part (b ∷ l) is = rw (cut-digits 0 b l (λ p h. is .digits p h .0))
+
+-- one more number, and a space with all that follows it
+number-more : (x : List ℕ) (n : ℕ) → n ≤ 99999 → parts (x ++ spaced n) ≡ parts x ++ (shown n ∷ [])
+number-more x n h = parts-space x (shown n) ∙ ap (λ (ps : List (List ℕ)). parts x ++ ps) (numeral-part (shown n) (numerals n h))
+
+rest-more : (x s u v w : List ℕ) → parts (x ++ (code " " ∷ s) ++ u ++ v ++ w) ≡ parts x ++ parts (s ++ u ++ v ++ w)
+rest-more x s u v w =
+    let a : List ℕ = code " " ∷ s in
+    ap (λ (l : List ℕ). parts (l ++ v ++ w)) (append-assoc x a u)
+    ∙ ap (λ (l : List ℕ). parts (l ++ w)) (append-assoc x (a ++ u) v)
+    ∙ ap parts (append-assoc x (a ++ u ++ v) w)
+    ∙ parts-space x (s ++ u ++ v ++ w)
+
+first-part : parts (ascii "(out") ≡ ascii "(out" ∷ []
+unfolding parts placed cut
+first-part = refl
+
+module _ (a : Algebra) (q i k n t w : ℕ) (hq : q ≤ 99999) (hi : i ≤ 99999) (hk : k ≤ 99999) (hn : n ≤ 99999) where
+  line-parts : parts (outLine a q i k n t w)
+      ≡ ascii "(out" ∷ shown q ∷ shown i ∷ shown k ∷ shown n ∷ parts (shown t ++ ascii " " ++ shownWord a w ++ ascii ")\n")
+  line-parts =
+      rw (
+        rest-more (ascii "(out" ++ spaced q ++ spaced i ++ spaced k ++ spaced n) (shown t) (ascii " ") (shownWord a w) (ascii ")\n"),
+        number-more (ascii "(out" ++ spaced q ++ spaced i ++ spaced k) n hn,
+        number-more (ascii "(out" ++ spaced q ++ spaced i) k hk,
+        number-more (ascii "(out" ++ spaced q) i hi,
+        number-more (ascii "(out") q hq,
+        first-part,
+      )
+
+  -- the number that the fifth part stands for
+  line-size : decimal 0 (getD (parts (outLine a q i k n t w)) 4 []) ≡ n
+  line-size = rw line-parts (numerals n hn .value)
+
+-- The size that is read off what is printed for an entry.
+entry-size : (J : Jobs) → ListAccepted J → {q i k : ℕ} → Entry J q i k → decimal 0 (getD (parts (printedEntry J q i k)) 4 []) ≡ size J q
+entry-size J list {q} {i} {k} at =
+    let most : size J q ≤ J .order = list .fits .sizes-fit q (at .job) .1 in
+    let range = list .fits .ranged in
+    ap (λ (l : List ℕ). decimal 0 (getD (parts l) 4 []))
+    (row-line J (closureWords J) (leaves J q i k) i (list .fits) at refl)
+    ∙ line-size (J .algebra q) q i k (size J q) (leaves J q i k) (closureWords J q i k)
+    (omega (arith, at .job, range .few)) (omega (arith, at .row, range .most)) (omega (arith, at .column, range .most))
+    (omega (arith, range .most))
+
+pub told-apart : Told-apart
+told-apart J J′ list list′ q i k q′ i′ k′ at at′ same =
+    sym (entry-size J list at) ∙ ap (λ (l : List ℕ). decimal 0 (getD (parts l) 4 [])) same ∙ entry-size J′ list′ at′
