@@ -7,18 +7,17 @@ use mathlib.Core.List.{List, [], _∷_, _++_, append-assoc}
 use lib.ListN.{length, getD}
 use borrow.Author.Tests.{ne-eqb}
 use Rattle.semiring.specs.declared.Algebra.{Algebra}
-use Rattle.job_list.specs.Jobs.{Jobs, Entry, size}
-use Rattle.job_list.specs.Fits.{ListAccepted}
+use Rattle.job_list.specs.Jobs.{size}
 use Rattle.systolic.specs.Tick.{leaves}
 use Rattle.text.specs.Ascii.{ascii}
 use Rattle.text.specs.Pieces.{Piece, cut, placed, parts}
-use Rattle.text.specs.Numeral.{decimal, shown}
+use Rattle.text.specs.Numeral.{shown}
 use Rattle.text.specs.claims.Numerals.{NumeralOf}
 use Rattle.text.proofs.Numerals.{numerals}
 use Rattle.text.proofs.Runs.{parts-space}
 use Rattle.sheet.specs.Lines.{shownWord, spaced, outLine}
 use Rattle.sheet.specs.claims.Demand.{closureWords}
-use Rattle.sheet.specs.claims.Sizes.{printedEntry, Told-apart}
+use Rattle.sheet.specs.claims.Sizes.{fifthNumber, Size-read, Told-apart}
 use Rattle.sheet.proofs.Rows.{row-line}
 
 -- Bytes from 48 on, as digits are, have no space among them.
@@ -63,21 +62,18 @@ module _ (a : Algebra) (q i k n t w : ℕ) (hq : q ≤ 99999) (hi : i ≤ 99999)
         first-part,
       )
 
-  -- the number that the fifth part stands for
-  line-size : decimal 0 (getD (parts (outLine a q i k n t w)) 4 []) ≡ n
+  line-size : fifthNumber (outLine a q i k n t w) ≡ n
   line-size = rw line-parts (numerals n hn .value)
 
--- The size that is read off what is printed for an entry.
-entry-size : (J : Jobs) → ListAccepted J → {q i k : ℕ} → Entry J q i k → decimal 0 (getD (parts (printedEntry J q i k)) 4 []) ≡ size J q
-entry-size J list {q} {i} {k} at =
-    let most : size J q ≤ J .order = list .fits .sizes-fit q (at .job) .1 in
-    let range = list .fits .ranged in
-    ap (λ (l : List ℕ). decimal 0 (getD (parts l) 4 []))
-    (row-line J (closureWords J) (leaves J q i k) i (list .fits) at refl)
+pub size-read : Size-read
+size-read J fits q i k at =
+    let most : size J q ≤ J .order = fits .sizes-fit q (at .job) .1 in
+    let range = fits .ranged in
+    ap fifthNumber (row-line J (closureWords J) (leaves J q i k) i fits at refl)
     ∙ line-size (J .algebra q) q i k (size J q) (leaves J q i k) (closureWords J q i k)
     (omega (arith, at .job, range .few)) (omega (arith, at .row, range .most)) (omega (arith, at .column, range .most))
     (omega (arith, range .most))
 
 pub told-apart : Told-apart
-told-apart J J′ list list′ q i k q′ i′ k′ at at′ same =
-    sym (entry-size J list at) ∙ ap (λ (l : List ℕ). decimal 0 (getD (parts l) 4 [])) same ∙ entry-size J′ list′ at′
+told-apart J J′ fits fits′ q i k q′ i′ k′ at at′ same =
+    sym (size-read J fits q i k at) ∙ ap fifthNumber same ∙ size-read J′ fits′ q′ i′ k′ at′

@@ -1,5 +1,5 @@
 -- Document 01, "Job text and bench program": the lines of a sheet.
-use Prim.Native.Nat.{ℕ, _+_}
+use Prim.Native.Nat.{ℕ}
 use mathlib.Core.List.{List, [], _++_}
 use mathlib.Core.Bool.{cond, _&&_}
 use lib.Dec.{eqb, ltb}
@@ -12,23 +12,23 @@ use Rattle.systolic.specs.Tick.{leaves}
 use Rattle.text.specs.Joined.{joined}
 use Rattle.text.specs.Numeral.{shown}
 
+-- A number after a space.
+abbrev pub spaced : ℕ → List ℕ
+spaced n = ascii " " ++ shown n
+
 -- "A refusal prints only `(refused 14 3)`: number, line."
 abbrev pub refusedLine : ℕ → ℕ → List ℕ
-refusedLine number line = ascii "(refused " ++ shown number ++ ascii " " ++ shown line ++ ascii ")\n"
+refusedLine number line = ascii "(refused" ++ spaced number ++ spaced line ++ ascii ")\n"
 
 -- "First line: jobs, ticks made."
 abbrev pub jobsLine : ℕ → ℕ → List ℕ
-jobsLine jobs ticks = ascii "(jobs " ++ shown jobs ++ ascii " ticks " ++ shown ticks ++ ascii ")\n"
+jobsLine jobs ticks = ascii "(jobs" ++ spaced jobs ++ ascii " ticks" ++ spaced ticks ++ ascii ")\n"
 
 -- "none as `-` outside reach"
 abbrev pub shownWord : Algebra → ℕ → List ℕ
 shownWord Reach w = shown w
 shownWord Distance w = cond (eqb w (noneOf Distance)) (ascii "-") (shown w)
 shownWord Steepest w = cond (eqb w (noneOf Steepest)) (ascii "-") (shown w)
-
--- A number after a space.
-abbrev pub spaced : ℕ → List ℕ
-spaced n = ascii " " ++ shown n
 
 -- "Then job, row, column, tick, word", and document 02, K1: "Each `out` line gets the job's size after the column." So job q, row i,
 -- column k, size n, tick t, word w.

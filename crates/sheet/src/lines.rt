@@ -4,7 +4,7 @@ ghost use lib.Dec.{eqb};
 ghost use Rattle.text.specs.Ascii.{ascii};
 ghost use Rattle.text.specs.Numeral.{shown};
 ghost use Rattle.text.specs.inner.Put.{Put};
-ghost use Rattle.sheet.specs.Lines.{refusedLine, jobsLine, shownWord, spaced, outLine};
+ghost use Rattle.sheet.specs.Lines.{spaced, refusedLine, jobsLine, shownWord, outLine};
 use semiring::Algebra;
 use semiring::Distance;
 use semiring::Steepest;
@@ -20,14 +20,21 @@ pub struct Entry {
     pub tick: u32,
 }
 
+// A number after a space.
+fn put_spaced(page: &mut [u8], at: usize, n: u32) -> usize
+    ensures { λ r. ⌜ Put (now (page .entry)) at (spaced n) (now (page .exit)) r ⌝ }
+{
+    let at = put_text(page, at, b" ");
+    put_number(page, at, n)
+}
+
 // The line of a refusal, which is the whole sheet.
 pub fn put_refused(page: &mut [u8], number: u16, line: u32) -> usize
     ensures { λ r. ⌜ Put (now (page .entry)) 0 (refusedLine number line) (now (page .exit)) r ⌝ }
 {
-    let at = put_text(page, 0, b"(refused ");
-    let at = put_number(page, at, number as u32);
-    let at = put_text(page, at, b" ");
-    let at = put_number(page, at, line);
+    let at = put_text(page, 0, b"(refused");
+    let at = put_spaced(page, at, number as u32);
+    let at = put_spaced(page, at, line);
     put_text(page, at, b")\n")
 }
 
@@ -35,10 +42,10 @@ pub fn put_refused(page: &mut [u8], number: u16, line: u32) -> usize
 pub fn put_jobs(page: &mut [u8], jobs: u32, ticks: u32) -> usize
     ensures { λ r. ⌜ Put (now (page .entry)) 0 (jobsLine jobs ticks) (now (page .exit)) r ⌝ }
 {
-    let at = put_text(page, 0, b"(jobs ");
-    let at = put_number(page, at, jobs);
-    let at = put_text(page, at, b" ticks ");
-    let at = put_number(page, at, ticks);
+    let at = put_text(page, 0, b"(jobs");
+    let at = put_spaced(page, at, jobs);
+    let at = put_text(page, at, b" ticks");
+    let at = put_spaced(page, at, ticks);
     put_text(page, at, b")\n")
 }
 
@@ -61,14 +68,6 @@ fn put_word(page: &mut [u8], at: usize, algebra: Algebra, word: u16) -> usize
         Algebra::Distance => put_unless(page, at, Distance::NONE, word),
         Algebra::Steepest => put_unless(page, at, Steepest::NONE, word),
     }
-}
-
-// A number after a space.
-fn put_spaced(page: &mut [u8], at: usize, n: u32) -> usize
-    ensures { λ r. ⌜ Put (now (page .entry)) at (spaced n) (now (page .exit)) r ⌝ }
-{
-    let at = put_text(page, at, b" ");
-    put_number(page, at, n)
 }
 
 // The line of an entry and its word.

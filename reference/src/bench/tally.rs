@@ -1,7 +1,7 @@
 //! What a comparison of texts has met, so that it cannot pass with one kind of text alone.
 
 use crate::job_text::{JobList, Refusal};
-use crate::texts::lists::{has_same_hall, has_stage, is_largest, neighbours_differ};
+use crate::texts::lists::{has_job_below_order, has_same_hall, is_largest, neighbours_differ};
 
 /// The refusals that a text can meet through the program.
 pub const NUMBERS: [u16; 9] = [5, 6, 7, 8, 13, 14, 15, 16, 17];
@@ -10,7 +10,7 @@ pub const NUMBERS: [u16; 9] = [5, 6, 7, 8, 13, 14, 15, 16, 17];
 pub struct Tally {
     accepted: usize,
     refused: [usize; 18],
-    stages: usize,
+    below_order: usize,
     neighbours_differ: usize,
     same_hall: usize,
     largest: usize,
@@ -25,7 +25,7 @@ impl Tally {
         match read {
             Ok(list) => {
                 self.accepted += 1;
-                self.stages += usize::from(has_stage(list));
+                self.below_order += usize::from(has_job_below_order(list));
                 self.neighbours_differ += usize::from(neighbours_differ(list));
                 self.same_hall += usize::from(has_same_hall(list));
                 self.largest += usize::from(is_largest(list));
@@ -50,7 +50,7 @@ impl Tally {
             let met = self.refused[usize::from(number)];
             rows.push(row(&format!("refused with {number}"), met, 100));
         }
-        rows.push(row("a job below the order", self.stages, 5_000));
+        rows.push(row("a job below the order", self.below_order, 5_000));
         let (differ, same) = (self.neighbours_differ, self.same_hall);
         rows.push(row("neighbours of different sizes", differ, 2_000));
         rows.push(row("one hall at two sizes", same, 1_000));

@@ -142,8 +142,8 @@ pub fn is_largest(list: &JobList) -> bool {
     list.order == MAX_ORDER && list.sizes.len() == MAX_JOBS
 }
 
-/// Whether some job has fewer points than the array's order.
-pub fn has_stage(list: &JobList) -> bool {
+/// Whether some job has fewer points than the array's order: only then does a line that shows the order for the size differ.
+pub fn has_job_below_order(list: &JobList) -> bool {
     list.sizes.iter().any(|&size| size < list.order)
 }
 

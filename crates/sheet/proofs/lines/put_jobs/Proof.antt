@@ -7,14 +7,14 @@ use Rattle.sheet.proofs.lines.put_jobs.Tie as tie
 printed : tie.Need-returns
 printed c =
     let end : tie.After-put-text3 = search needs in
-    let ticks : tie.After-put-number2 = search needs in
+    let ticks : tie.After-put-spaced2 = search needs in
     let between : tie.After-put-text2 = search needs in
-    let jobs : tie.After-put-number = search needs in
+    let jobs : tie.After-put-spaced = search needs in
     let begin : tie.After-put-text = search needs in
     begin .put-text .ensures
-    then jobs .put-number .ensures
+    then jobs .put-spaced .ensures
     then between .put-text2 .ensures
-    then ticks .put-number2 .ensures
+    then ticks .put-spaced2 .ensures
     then end .put-text3 .ensures
 
 pub put-jobs-spec : {M : Type 1} → statement M

@@ -6,16 +6,14 @@ use Rattle.sheet.proofs.lines.put_refused.Tie as tie
 
 printed : tie.Need-returns
 printed c =
-    let end : tie.After-put-text3 = search needs in
-    let line : tie.After-put-number2 = search needs in
-    let between : tie.After-put-text2 = search needs in
-    let number : tie.After-put-number = search needs in
+    let end : tie.After-put-text2 = search needs in
+    let line : tie.After-put-spaced2 = search needs in
+    let number : tie.After-put-spaced = search needs in
     let begin : tie.After-put-text = search needs in
     begin .put-text .ensures
-    then number .put-number .ensures
-    then between .put-text2 .ensures
-    then line .put-number2 .ensures
-    then end .put-text3 .ensures
+    then number .put-spaced .ensures
+    then line .put-spaced2 .ensures
+    then end .put-text2 .ensures
 
 pub put-refused-spec : {M : Type 1} → statement M
 put-refused-spec =
@@ -23,8 +21,6 @@ put-refused-spec =
     (tie.spec
     (λ c. search needs)
     (λ c κs. search needs)
-    (λ c κs. search needs)
-    (λ c. search needs)
     (λ c κs. search needs)
     (λ c κs. search needs)
     (λ c. search needs)
