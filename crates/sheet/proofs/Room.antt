@@ -54,8 +54,12 @@ word-length Reach w = numeral-most 5 w
 word-length Distance w = dash-length w (noneOf Distance)
 word-length Steepest w = dash-length w (noneOf Steepest)
 
+-- no line is longer than `(out 15 31 30 32 2108 65534)` with its LF
+abbrev line-most : ℕ
+line-most = 29
+
 out-length : (a : Algebra) (q i k n t w : ℕ) → q < 100 → i < 100 → k < 100 → n < 100 → t < 10000
-    → length (outLine a q i k n t w) ≤ 29
+    → length (outLine a q i k n t w) ≤ line-most
 out-length a q i k n t w hq hi hk hn ht =
     simp length-append
     (omega (arith, two-digits q hq, two-digits i hi, two-digits k hk, two-digits n hn, four-digits t ht, word-length a w))
@@ -69,12 +73,12 @@ module _ (J : Jobs) (word : Words) (list : ListFits J) (ticks : ℕ) (short : ti
   size-most q h = let (least, most) = list .sizes-fit q h in omega (arith, order-most)
 
   entry-length : (t i q k : ℕ) → t < ticks → i < J .order → q < count J → k < size J q
-      → length (entryLine J word t i q k) ≤ cond (eqb t (leaves J q i k)) 29 0
+      → length (entryLine J word t i q k) ≤ cond (eqb t (leaves J q i k)) line-most 0
   entry-length t i q k ht hi hq hk = by (ℕ-discrete t (leaves J q i k)) (ltb i (size J q))
     where
       by : Dec (t ≡ leaves J q i k) → (b : Bool)
           → length (cond (b && eqb t (leaves J q i k)) (outLine (J .algebra q) q i k (size J q) t (word q i k)) [])
-          ≤ cond (eqb t (leaves J q i k)) 29 0
+          ≤ cond (eqb t (leaves J q i k)) line-most 0
       by (yes e) true =
           rw (eq-eqb t (leaves J q i k) e)
           (out-length (J .algebra q) q i k (size J q) t (word q i k)
@@ -84,28 +88,28 @@ module _ (J : Jobs) (word : Words) (list : ListFits J) (ticks : ℕ) (short : ti
       by (no e) b = rw (ne-eqb t (leaves J q i k) e, and-false b) (omega arith)
 
   -- over all ticks: an entry, the entries of row i of job q, the rows i of all jobs, all rows
-  entry-sum : (i q k : ℕ) → i < J .order → q < count J → k < size J q → sum ticks (λ t. length (entryLine J word t i q k)) ≤ 29
+  entry-sum : (i q k : ℕ) → i < J .order → q < count J → k < size J q → sum ticks (λ t. length (entryLine J word t i q k)) ≤ line-most
   entry-sum i q k hi hq hk =
       le-trans
-      (sum-below ticks (λ t. length (entryLine J word t i q k)) (λ t. cond (eqb t (leaves J q i k)) 29 0)
+      (sum-below ticks (λ t. length (entryLine J word t i q k)) (λ t. cond (eqb t (leaves J q i k)) line-most 0)
       (λ t ht. entry-length t i q k ht hi hq hk))
-      (sum-once ticks (leaves J q i k) 29)
+      (sum-once ticks (leaves J q i k) line-most)
 
-  job-sum : (i q : ℕ) → i < J .order → q < count J → sum ticks (λ t. length (joined (size J q) (entryLine J word t i q))) ≤ 32 * 29
+  job-sum : (i q : ℕ) → i < J .order → q < count J → sum ticks (λ t. length (joined (size J q) (entryLine J word t i q))) ≤ 32 * line-most
   job-sum i q hi hq =
-      le-trans (joined-sums ticks (size J q) (λ t. entryLine J word t i q) 29 (λ k hk. entry-sum i q k hi hq hk))
+      le-trans (joined-sums ticks (size J q) (λ t. entryLine J word t i q) line-most (λ k hk. entry-sum i q k hi hq hk))
       (omega (arith, size-most q hq))
 
-  row-sum : (i : ℕ) → i < J .order → sum ticks (λ t. length (rowLines J word t i)) ≤ 16 * (32 * 29)
+  row-sum : (i : ℕ) → i < J .order → sum ticks (λ t. length (rowLines J word t i)) ≤ 16 * (32 * line-most)
   row-sum i hi =
       le-trans
-      (joined-sums ticks (count J) (λ t q. joined (size J q) (entryLine J word t i q)) (32 * 29) (λ q hq. job-sum i q hi hq))
+      (joined-sums ticks (count J) (λ t q. joined (size J q) (entryLine J word t i q)) (32 * line-most) (λ q hq. job-sum i q hi hq))
       (omega (arith, list .ranged .few))
 
-  lines-length : length (joined ticks (λ t. joined (J .order) (rowLines J word t))) ≤ 32 * (16 * (32 * 29))
+  lines-length : length (joined ticks (λ t. joined (J .order) (rowLines J word t))) ≤ 32 * (16 * (32 * line-most))
   lines-length =
       rw (joined-length ticks (λ t. joined (J .order) (rowLines J word t)))
-      (le-trans (joined-sums ticks (J .order) (λ t. rowLines J word t) (16 * (32 * 29)) (λ i hi. row-sum i hi))
+      (le-trans (joined-sums ticks (J .order) (λ t. rowLines J word t) (16 * (32 * line-most)) (λ i hi. row-sum i hi))
       (omega (arith, order-most)))
 
   sheet-length : length (sheet J word ticks) ≤ pageBytes
