@@ -33,4 +33,5 @@ cards = record {
   B8-after = refl;
   B8-ticks = refl;
   B9 = refl;
+  refusal = refl;
 }

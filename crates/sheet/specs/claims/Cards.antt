@@ -1,4 +1,4 @@
--- Document 01, "Bench cards": B1 to B9 in one statement, and one card more for the elimination's last pass.
+-- Document 01, "Bench cards": B1 to B9 in one statement, and a card more for the elimination's last pass and for a refusal's line.
 use Prim.Native.Nat.{ℕ}
 use mathlib.Core.Path.{_≡_}
 use mathlib.Core.List.{List, [], _∷_}
@@ -53,3 +53,5 @@ pub record BenchCards : Type 0 where
   pub B9 :
       sheetOf (ascii "(list 2 distance\n(job 2\n(row 0 5)\n(row - 0)\n)\n)\n")
       ≡ ascii "(jobs 1 ticks 10)\n(out 0 0 0 2 7 0)\n(out 0 0 1 2 8 5)\n(out 0 1 0 2 8 -)\n(out 0 1 1 2 9 0)\n"
+  -- "A refusal prints only `(refused 14 3)`: number, line."
+  pub refusal : sheetOf (ascii "(list 2 distance\n(job 2\n(raw 0 5)\n") ≡ ascii "(refused 14 3)\n"
