@@ -1,10 +1,10 @@
 // Cards of the array.
-use crate::verdict::same;
 use array::run;
 use array::run_number;
 use array::start;
 use array::start_number;
 use array::ticks_made;
+use memory::same_words;
 
 // A start that answers the given number.
 pub fn starts(
@@ -36,7 +36,7 @@ pub fn makes(
     if ticks_made(answer) != ticks {
         return false;
     }
-    same(results, expected)
+    same_words(results, expected)
 }
 
 // Its word leaves on tick 3, 4 ticks in all.

@@ -1,7 +1,7 @@
 // Card B11: the borders of each number, and runs that make no tick.
 use crate::array_cards::makes;
 use crate::array_cards::starts;
-use crate::verdict::same;
+use memory::same_words;
 use paths::eliminate;
 use paths::number;
 
@@ -69,7 +69,7 @@ pub fn leaves(before: [u16; 16], allowance: u16, after: [u16; 16], word: u16) ->
         0,
         &held,
     );
-    ran & same(&state, &after) & same(&scratch, &[word; 8])
+    ran & same_words(&state, &after) & same_words(&scratch, &[word; 8])
 }
 
 fn unchanged(state: [u16; 16], allowance: u16) -> bool {

@@ -1,5 +1,5 @@
 // Cards of the elimination.
-use crate::verdict::same;
+use memory::same_words;
 use paths::eliminate;
 use paths::number;
 
@@ -14,7 +14,7 @@ pub fn closes(
     if answer != 0 {
         return false;
     }
-    same(result, expected)
+    same_words(result, expected)
 }
 
 pub fn one_point() -> bool {

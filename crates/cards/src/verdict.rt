@@ -1,7 +1,7 @@
 // Whether a card passed, to standard output.
 ghost use mathlib.Core.Path.{_≡_};
 ghost use lib.ListN.{length, take};
-ghost use Rattle.text.specs.Pieces.{same as equalLists};
+ghost use Rattle.memory.specs.Lists.{same};
 ghost use Rattle.cards.specs.Verdict.{verdictOf};
 use libc::STDOUT_FILENO;
 use text::equal;
@@ -20,25 +20,9 @@ pub fn tell(card: &[u8], passed: bool) {
     io::write_all(STDOUT_FILENO, &verdict(passed));
 }
 
-pub fn same(words: &[u16], expected: &[u16]) -> bool
-    ensures { λ r. ⌜ r ≡ equalLists (now (words .entry)) (now (expected .entry)) ⌝ }
-{
-    if words.len() != expected.len() {
-        return false;
-    }
-    let mut p = 0;
-    while p < words.len() {
-        if words[p] != expected[p] {
-            return false;
-        }
-        p += 1;
-    }
-    true
-}
-
 // Whether the page's first bytes are the text.
 pub fn begins(page: &[u8], text: &[u8]) -> bool
-    ensures { λ r. ⌜ r ≡ equalLists (take (length (now (text .entry))) (now (page .entry))) (now (text .entry)) ⌝ }
+    ensures { λ r. ⌜ r ≡ same (take (length (now (text .entry))) (now (page .entry))) (now (text .entry)) ⌝ }
 {
     let n = text.len();
     if n <= page.len() {

@@ -8,7 +8,7 @@ use lib.ListN.{length, getD, take}
 use lib.Dec.{eqb}
 use Rattle.semiring.specs.declared.Algebra.the-variants.{Reach, Distance, Steepest}
 use Rattle.text.specs.Ascii.{ascii}
-use Rattle.text.specs.Pieces.{same}
+use Rattle.memory.specs.Lists.{same}
 use Rattle.text.specs.Numeral.{digits, numeralOf}
 use Rattle.text.specs.declared.numeral.Numeral.{Numeral}
 use Rattle.text.specs.declared.numeral.Numeral.the-variants as read

@@ -8,7 +8,7 @@ use lib.ListN.{length}
 use mir.Syntax.{w16}
 use mir.Val.{Fits}
 use Rattle.text.specs.Ascii.{ascii}
-use Rattle.text.specs.Pieces.{same}
+use Rattle.memory.specs.Lists.{same}
 use Rattle.text.specs.Numeral.{digits, numeralOf}
 use Rattle.text.specs.declared.numeral.Numeral.{Numeral}
 use Rattle.text.specs.declared.numeral.Numeral.the-variants as read

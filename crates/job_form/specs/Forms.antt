@@ -11,7 +11,7 @@ use Rattle.job_form.specs.declared.tokens.Token.the-variants.{Other}
 use Rattle.job_form.specs.declared.forms.Head.{Head}
 use Rattle.job_form.specs.declared.forms.Head.the-variants as head
 use Rattle.text.specs.Ascii.{ascii}
-use Rattle.text.specs.Pieces.{same}
+use Rattle.memory.specs.Lists.{same}
 use Rattle.job_form.specs.Tokens.{tokenOf}
 
 pub data Form : Type 0 where

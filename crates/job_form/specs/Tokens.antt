@@ -8,7 +8,7 @@ use Rattle.refusals.specs.Tests.{first}
 use Rattle.job_form.specs.declared.tokens.Token.{Token}
 use Rattle.job_form.specs.declared.tokens.Token.the-variants.{Number, Over, Dash, Name, Other}
 use Rattle.text.specs.Ascii.{ascii}
-use Rattle.text.specs.Pieces.{same}
+use Rattle.memory.specs.Lists.{same}
 use Rattle.text.specs.Numeral.{digits, numeralOf}
 use Rattle.text.specs.declared.numeral.Numeral.{Numeral}
 use Rattle.text.specs.declared.numeral.Numeral.the-variants as read

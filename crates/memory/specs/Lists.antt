@@ -1,7 +1,8 @@
--- The list of a function's values, a test over a list, and a memory after a part of it was lent and given back.
+-- The list of a function's values, a test over a list, two lists compared, and a memory after a part of it was lent and given back.
 use Prim.Native.Nat.{ℕ, zero, suc}
 use mathlib.Core.List.{List, [], _∷_, _++_}
-use mathlib.Core.Bool.{Bool, false, _||_}
+use mathlib.Core.Bool.{Bool, true, false, _||_, _&&_}
+use lib.Dec.{eqb}
 use lib.ListN.{take, drop}
 
 -- f 0, f 1, .. f (m - 1)
@@ -18,3 +19,10 @@ module _ {A : Type 0} where
   unfoldable pub any : (A → Bool) → List A → Bool
   any test [] = false
   any test (x ∷ l) = test x || any test l
+
+-- Whether two lists are the same.
+abbrev pub same : List ℕ → List ℕ → Bool
+same [] [] = true
+same [] (y ∷ ys) = false
+same (x ∷ xs) [] = false
+same (x ∷ xs) (y ∷ ys) = eqb x y && same xs ys

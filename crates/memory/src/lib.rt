@@ -1,7 +1,8 @@
-// Lent memory: the two walks over words that every crate above uses, and under specs/ and proofs/ the laws of lists of words.
+// Lent memory: the walks over words that every crate above uses, and under specs/ and proofs/ the laws of lists of words.
 ghost use mathlib.Core.Path.{_≡_};
 ghost use Prim.Native.Nat.{_≤_};
 ghost use lib.ListN.{length, getD, replicate};
+ghost use Rattle.memory.specs.Lists.{same};
 ghost use Rattle.memory.specs.Walked.{Walked};
 
 // The words of `from` to the front of `to`.
@@ -25,4 +26,20 @@ pub fn clear(words: &mut [u16])
         words[at] = 0;
         at += 1;
     }
+}
+
+// Whether two memories hold the same words. The walk does not stop at the first that differs, so that it runs on vectors.
+pub fn same_words(words: &[u16], others: &[u16]) -> bool
+    ensures { λ r. ⌜ r ≡ same (now (words .entry)) (now (others .entry)) ⌝ }
+{
+    if words.len() != others.len() {
+        return false;
+    }
+    let mut alike = true;
+    let mut q = 0;
+    while q < words.len() {
+        alike = alike & (words[q] == others[q]);
+        q += 1;
+    }
+    alike
 }

@@ -5,5 +5,4 @@ pub mod Lengths
 pub mod Numerals
 pub mod Put
 pub mod Runs
-pub mod Same
 pub mod Walks

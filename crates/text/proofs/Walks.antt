@@ -6,10 +6,11 @@ use mathlib.Core.Path.{_≡_, refl, sym, _∙_}
 use mathlib.Core.List.{List}
 use mathlib.Core.Bool.{true, false}
 use lib.ListN.{length, getD, drop}
-use Rattle.text.specs.Pieces.{same, placed}
+use Rattle.memory.specs.Lists.{same}
+use Rattle.memory.proofs.Same.{same-step, same-differ, same-end}
+use Rattle.text.specs.Pieces.{placed}
 use Rattle.text.specs.inner.Scan.{Until, Unspaced}
 use Rattle.text.proofs.Cuts.{until-here, below-from, placed-space}
-use Rattle.text.proofs.Same.{same-length, same-step, same-differ, same-end}
 
 -- `until`: no byte `end` so far
 pub record Passed (end from : ℕ) (l : List ℕ) (at : ℕ) : Type 0 where
@@ -67,6 +68,3 @@ module _ {p q : List ℕ} where
 
   pub alike-all : {at : ℕ} → Alike p q at → length p ≤ at → true ≡ same p q
   alike-all {at} a h = sym (a .rest ∙ same-end p q at h (omega (arith, a .long)))
-
-pub longer : (p q : List ℕ) → (length p ≡ length q → ⊥) → false ≡ same p q
-longer p q h = sym (same-length p q h)

@@ -2,14 +2,8 @@
 use Prim.Native.Nat.{ℕ, suc}
 use Prim.Native.Char.{code}
 use mathlib.Core.List.{List, [], _∷_, map}
-use mathlib.Core.Bool.{Bool, true, false, _&&_}
+use mathlib.Core.Bool.{Bool, true, false}
 use lib.Dec.{eqb}
-
-abbrev pub same : List ℕ → List ℕ → Bool
-same [] [] = true
-same [] (c ∷ q) = false
-same (b ∷ p) [] = false
-same (b ∷ p) (c ∷ q) = eqb b c && same p q
 
 -- A piece of a list of bytes, and the place of its first byte there, from 0.
 pub record Piece : Type 0 where

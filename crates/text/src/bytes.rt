@@ -1,6 +1,6 @@
 // Walks over bytes that know nothing of forms.
 ghost use mathlib.Core.Path.{_≡_};
-ghost use Rattle.text.specs.Pieces.{same};
+ghost use Rattle.memory.specs.Lists.{same};
 ghost use Rattle.text.specs.inner.Scan.{Until, Unspaced};
 
 // The place of the first byte `end` from `from` on, or where the bytes end.

@@ -7,8 +7,8 @@ use mathlib.Core.Bool.{false}
 use lib.ListN.{length, take, length-take}
 use lib.Seq.{length-take-le}
 use borrow.Author.Needs.{needs}
-use Rattle.text.specs.Pieces.{same}
-use Rattle.text.proofs.Walks.{longer}
+use Rattle.memory.specs.Lists.{same}
+use Rattle.memory.proofs.Same.{longer}
 use Rattle.cards.proofs.verdict.begins.Statement.{statement}
 use Rattle.cards.proofs.verdict.begins.Tie as tie
 

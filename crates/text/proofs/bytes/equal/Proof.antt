@@ -2,7 +2,8 @@
 use Prim.Native.Nat.{_-_}
 use lib.ListN.{length}
 use borrow.Author.Needs.{needs}
-use Rattle.text.proofs.Walks.{Alike, alike-none, alike-one, unlike, alike-all, longer}
+use Rattle.memory.proofs.Same.{longer}
+use Rattle.text.proofs.Walks.{Alike, alike-none, alike-one, unlike, alike-all}
 use Rattle.text.proofs.bytes.equal.Statement.{statement}
 use Rattle.text.proofs.bytes.equal.Tie as tie
 
