@@ -10,7 +10,7 @@ use Rattle.closure.specs.Ways.{Way, stay, step, wayWord, Visits, now, la
 use Rattle.closure.proofs.Links.{Links}
 use Rattle.closure.proofs.Ways.{step-word, way-word}
 
-visits-none : {p : ℕ} → Visits p [] → ⊥
+pub visits-none : {p : ℕ} → Visits p [] → ⊥
 visits-none = elim [ ]
 
 visits-cons : {p q : ℕ} {l : List ℕ} → Visits p (q ∷ l) → (p ≡ q → ⊥) → (Visits p l → ⊥) → ⊥

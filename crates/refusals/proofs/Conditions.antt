@@ -5,10 +5,10 @@ use mathlib.Core.Path.{_≡_, refl, sym, _∙_}
 use mathlib.Core.Logic.{_⊎_, inl, inr}
 use mathlib.Core.List.{List, [], _∷_}
 use mathlib.Core.Bool.{Bool, true, false, cond, not, _||_, true≢false}
-use lib.Dec.{eqb, ltb}
+use lib.Dec.{eqb, leb, ltb}
 use lib.ListN.{getD}
 use Rattle.memory.specs.Lists.{any}
-use borrow.Author.Tests.{ltb-false, ltb-true, eqb-true, eqb-false, not-true, not-false}
+use borrow.Author.Tests.{ltb-false, ltb-true, leb-true, leb-false, eqb-true, eqb-false, not-true, not-false}
 use Rattle.memory.proofs.Any.{both-false, any-none}
 use Rattle.refusals.specs.Tests.{outside}
 use Rattle.refusals.specs.Conditions.{Conditions, otherwise, test, Returns, Exactly, Outside, Some}
@@ -47,6 +47,12 @@ none = record { returned = refl; only = λ n e. sym e }
 -- What each kind of test decides.
 pub decides-differ : (x y : ℕ) → Decides (not (eqb x y)) (x ≡ y → ⊥)
 decides-differ x y = record { yes = λ e f. eqb-false x y (not-true (eqb x y) e) f; no = λ e d. d (eqb-true x y (not-false (eqb x y) e)) }
+
+pub decides-equal : (x y : ℕ) → Decides (eqb x y) (x ≡ y)
+decides-equal x y = record { yes = eqb-true x y; no = eqb-false x y }
+
+pub decides-least : (x y : ℕ) → Decides (leb x y) (x ≤ y)
+decides-least x y = record { yes = leb-true x y; no = λ e h. let l = leb-false x y e in omega arith }
 
 pub decides-above : (x y : ℕ) → Decides (ltb x y) (x < y)
 decides-above x y = record { yes = ltb-true x y; no = λ e h. let l = ltb-false x y e in omega arith }

@@ -80,6 +80,12 @@ none-applied ((b, zero) ∷ ts) n e = absurd (true≢false (sym n))
 none-applied ((true, suc k) ∷ ts) n e = absurd (omega arith)
 none-applied ((false, suc k) ∷ ts) n e = (refl, none-applied ts (rw (eqb·suc-zero k) at n) e)
 
+-- What a table found stands with further tests at its end.
+pub first-before : (ts us : List (Bool × ℕ)) → (first 0 ts ≡ 0 → ⊥) → first 0 (ts ++ us) ≡ first 0 ts
+first-before [] us some = absurd (some refl)
+first-before ((true, k) ∷ ts) us some = refl
+first-before ((false, k) ∷ ts) us some = first-before ts us some
+
 -- Each number of the table is at most so much, and so is its answer.
 abbrev pub bounded : ℕ → List (Bool × ℕ) → Bool
 bounded most [] = true
@@ -126,11 +132,22 @@ within least most n h g = rw (le-ltb n least h, le-ltb most n g)
 pub told : (test : Bool) (answer known : Bool) → answer ≡ test → answer ≡ known → test ≡ known
 told test answer known e f = sym e ∙ f
 
+-- the same, where the code asks for its contrary
+pub told-not : (test answer known : Bool) → answer ≡ test → not answer ≡ known → not test ≡ known
+told-not test answer known e f = rw (← e) f
+
 -- a length held to a number that a function made
 pub same-as : (x y made : ℕ) → x ≡ made → made ≡ y → not (eqb x y) ≡ false
 same-as x y made e f = same x y (e ∙ f)
 
 pub differs-from : (x y made : ℕ) → (x ≡ made → ⊥) → made ≡ y → not (eqb x y) ≡ true
 differs-from x y made h f = differ x y (λ e. h (e ∙ sym f))
+
+-- the same, where equality is what is tested
+pub equal-as : (x y made : ℕ) → x ≡ made → made ≡ y → eqb x y ≡ true
+equal-as x y made e f = eq-eqb x y (e ∙ f)
+
+pub other-than : (x y made : ℕ) → (x ≡ made → ⊥) → made ≡ y → eqb x y ≡ false
+other-than x y made h f = ne-eqb x y (λ e. h (e ∙ sym f))
 
 pub ruleset tests = (hit, skip, clear, same, differ, below, above, within, told, same-as, differs-from)

@@ -11,6 +11,11 @@ pub data Conditions : Type 1 where
   otherwise : Conditions
   test : Type 0 → ℕ → Conditions → Conditions
 
+-- Conditions, and where none of them applies those that follow.
+abbrev pub followed : Conditions → Conditions → Conditions
+followed otherwise more = more
+followed (test P k rest) more = test P k (followed rest more)
+
 -- The number n is that of the first condition that applies, and 0 where none does.
 abbrev pub Returns : Conditions → ℕ → Type 0
 Returns otherwise n = n ≡ 0

@@ -1,9 +1,6 @@
--- `paths::eliminate` meets its contract: each return is found from the table of tests and what the branches told.
-use native.Mathlib.Omega.{arith}
+-- `paths::eliminate` meets its contract: it turns back as its checks do, and else the table is laid out and closed.
 use borrow.Author.Needs.{needs}
-use Rattle.memory.proofs.Geometry.{square-fits}
-use Rattle.refusals.proofs.First.{tests}
-use Rattle.paths.proofs.Refusals.{unknown, refused, accepted}
+use Rattle.paths.proofs.Refusals.{refused, to-lay-out, to-close, accepted}
 use Rattle.paths.proofs.eliminate.Statement.{statement}
 use Rattle.paths.proofs.eliminate.Tie as tie
 
@@ -11,25 +8,14 @@ pub eliminate-spec : {M : Type 1} → statement M
 eliminate-spec =
     tie.close
     (tie.spec
-    -- the algebra
+    -- the checks
     (λ c κs. search needs)
     (λ c. search needs)
     (λ c. search needs)
-    (λ c. search unknown)
-    -- the size
-    (λ c. search (refused, tests))
-    (λ c. search (refused, tests))
-    -- the weights
-    (λ c. omega (arith, square-fits (c .if2 .left)))
-    (λ c. search (refused, tests, c .if3 .taken))
-    -- the result
     (λ c. search needs)
-    (λ c. search (refused, tests, c .if4 .taken))
-    -- the words
-    (λ c κs. search needs)
-    (λ c. search (refused, tests) depth 9)
+    (λ c. search refused)
     -- the elimination
-    (λ c κs. search needs)
-    (λ c κs. search needs)
+    (λ c κs. let k : tie.After-checked = search needs in to-lay-out (k .before .before .check .ensures) (k .checked .given .1))
+    (λ c κs. search to-close)
     (λ c. search needs)
-    (λ c. search (accepted, tests) depth 9))
+    (λ c. search accepted))
