@@ -4,6 +4,7 @@ mod limit_cards;
 mod listing_card;
 mod table_cards;
 mod verdict;
+mod way_cards;
 mod wrong_cards;
 
 use verdict::tell;
@@ -23,5 +24,10 @@ fn main() {
     tell(b"elimination, last pass: ", table_cards::last_pass());
     tell(b"array, third pass: ", array_cards::third_pass());
     tell(b"array, zero ticks: ", limit_cards::zero_ticks());
+    tell(b"way, two of one word: ", way_cards::two_ways());
+    tell(b"way, a point to itself: ", way_cards::alone());
+    tell(b"way, none: ", way_cards::no_way());
+    tell(b"way, a point outside: ", way_cards::outside());
+    tell(b"way, other lists: ", way_cards::other_lists());
     wrong_cards::tell_all();
 }

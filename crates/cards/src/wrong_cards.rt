@@ -6,6 +6,7 @@ use crate::limit_cards::leaves;
 use crate::listing_card::prints;
 use crate::table_cards::closes;
 use crate::verdict::tell;
+use crate::way_cards::gives;
 
 fn table(weight: u16, expected: u16) -> bool {
     closes(0, 1, &[weight], &mut [1u16], &[expected])
@@ -49,4 +50,16 @@ pub fn tell_all() {
     );
     tell(b"wrong, a sheet's byte: ", prints(b"", b"(refused 17 1)\n"));
     tell(b"wrong, a sheet's length: ", prints(b"", b"(refused 17 0)"));
+    tell(
+        b"wrong, a way's points: ",
+        gives(0, 3, 0, 3, [0, 3, 3, 9], [0, 1, 2, 9]),
+    );
+    tell(
+        b"wrong, a way's length: ",
+        gives(2, 2, 0, 2, [2, 9, 9, 9], [2, 9, 9, 9]),
+    );
+    tell(
+        b"wrong, a way's number: ",
+        gives(3, 0, 19, 0, [9u16; 4], [9u16; 4]),
+    );
 }

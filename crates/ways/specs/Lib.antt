@@ -1,0 +1,4 @@
+pub mod Tests
+pub mod Given
+pub mod inner
+pub mod claims

@@ -1,0 +1,4 @@
+-- What is claimed of a way given.
+pub mod Refusals
+pub mod Reading
+pub mod Cards
