@@ -1,14 +1,15 @@
-//! Times the proved elimination, array and bench, through their C calls, beside Rust: the same input, one run, one table.
-//! A benchmark, and no test.
+//! Times the proved elimination, array, bench and ways, through their C calls, beside Rust: the same input, one run, one
+//! table. A benchmark, and no test.
 //!
 //! "rust" is the same algorithm in safe Rust; "other" is SSE2 by hand for the elimination, and the plain model of the
-//! array, cell by cell, for the rest. No buffer is cleared between rounds; each contender writes its whole result.
+//! array, cell by cell, for the array and the bench. No buffer is cleared between rounds; each contender writes its
+//! whole result.
 
 use reference::algebra::Algebra;
 use reference::bench::row_sheet::row_sheet;
 use reference::bench::sheet::sheet;
 use reference::bench::sheet_call::{self, PAGE};
-use reference::bench::timing::best_times;
+use reference::bench::timing::{best_times, best_times_in};
 use reference::elimination;
 use reference::elimination::host_call::{self, bytes_of};
 use reference::elimination::rust_loop::RustLoop;
@@ -18,12 +19,18 @@ use reference::job_text::JobList;
 use reference::random::Random;
 use reference::texts::lists::{list, Sizes};
 use reference::texts::writing::{text, Freedom};
+use reference::ways::judge::judge;
+use reference::ways::rust_search::RustSearch;
+use reference::ways::{self, Hall, Question};
 use reference::MAX_SIZE;
 use std::cell::RefCell;
 use std::hint::black_box;
 
 const SEED: u64 = 0x5EED_0F0A_7AB1_E002;
 const ELIMINATION_SIZES: [usize; 5] = [4, 8, 16, 32, MAX_SIZE];
+const WAY_SIZES: [usize; 3] = [8, 32, MAX_SIZE];
+/// At least; one of the largest table takes seconds.
+const WAY_ROUNDS: usize = 2;
 /// Order, and size of each of the 16 jobs.
 const LISTS: [(usize, usize); 3] = [(8, 8), (16, 16), (32, 32)];
 
@@ -56,16 +63,29 @@ fn main() {
             sheets(&mut random, "bench", &jobs, 1000.0, "us a text");
         }
     }
+    for size in WAY_SIZES {
+        for algebra in Algebra::ALL {
+            all_ways(&mut random, algebra, size);
+        }
+    }
 }
 
-fn row(what: &str, size: usize, algebra: Algebra, times: [f64; 3], unit: &str) {
-    let [ours, rust, other] = times;
-    println!(
-        "{what:<12}{size:>5}  {:<9}{ours:>11.2}{rust:>11.2}{other:>11.2}{:>11.2}{:>11.2}  {unit}",
-        algebra.name(),
-        ours / rust,
-        ours / other
-    );
+/// The times are ours, rust's and, where there is one, the other's.
+fn row(what: &str, size: usize, algebra: Algebra, times: &[f64], unit: &str) {
+    let (ours, rust, other) = (times[0], times[1], times.get(2));
+    let figures = [
+        Some(ours),
+        Some(rust),
+        other.copied(),
+        Some(ours / rust),
+        other.map(|other| ours / other),
+    ];
+    let columns = figures.map(|figure| match figure {
+        Some(figure) => format!("{figure:>11.2}"),
+        None => format!("{:>11}", "-"),
+    });
+    let (algebra, columns) = (algebra.name(), columns.concat());
+    println!("{what:<12}{size:>5}  {algebra:<9}{columns}  {unit}");
 }
 
 /// As many tables as fill the place of the largest, so that every size meets the same caches.
@@ -109,9 +129,53 @@ fn eliminations(random: &mut Random, algebra: Algebra, size: usize) {
         "elimination",
         size,
         algebra,
-        times.map(|time| time / count as f64),
+        &times.map(|time| time / count as f64),
         "ns a table",
     );
+}
+
+/// A contender of the ways: the number of points in the list, or of the refusal.
+type Search<'a> = &'a mut dyn FnMut(&Question, &mut [u16]) -> Result<usize, u32>;
+
+/// All pairs of points of one table, each in a whole call; an entry of none is refused.
+fn all_ways(random: &mut Random, algebra: Algebra, size: usize) {
+    let links = table(random, algebra, size, Kind::SmallWords);
+    let hall = &Hall::new(algebra, size, links);
+    let mut rust_search = RustSearch::new(size);
+    let mut ours = |asked: &Question, list: &mut [u16]| {
+        let mut length = 0;
+        match ways::host_call::way(asked, list, &mut length) {
+            0 => Ok(length),
+            number => Err(number),
+        }
+    };
+    let mut rust = |asked: &Question, list: &mut [u16]| rust_search.way(asked, list);
+    let contenders: [Search; 2] = [&mut ours, &mut rust];
+    let rounds = contenders.map(|contender| {
+        over_pairs(hall, contender, |from, to, answer| {
+            let right = match answer {
+                Ok(list) => judge(hall, from, to, list).is_ok(),
+                Err(number) => number == 20 && !hall.has_way(from, to),
+            };
+            assert!(right, "a contender's way is wrong");
+        });
+        let round = || over_pairs(hall, contender, |_, _, answer| _ = black_box(answer));
+        Box::new(round) as Box<dyn FnMut()>
+    });
+    let times = best_times_in(WAY_ROUNDS, rounds);
+    let scale = (size * size * 1000) as f64;
+    let times = times.map(|time| time / scale);
+    row("way", size, algebra, &times, "us a way");
+}
+
+fn over_pairs(hall: &Hall, search: Search, look: impl Fn(usize, usize, Result<&[u16], u32>)) {
+    let mut list = vec![0; hall.size];
+    for from in 0..hall.size {
+        for to in 0..hall.size {
+            let answer = search(black_box(&hall.question(from, to)), black_box(&mut list));
+            look(from, to, answer.map(|length| &list[..length]));
+        }
+    }
 }
 
 /// 16 jobs of one size, with words short enough for a text.
@@ -139,7 +203,7 @@ fn sheets(random: &mut Random, what: &str, jobs: &JobList, scale: f64, unit: &st
         what,
         jobs.order.into(),
         jobs.algebra,
-        times.map(|time| time / scale),
+        &times.map(|time| time / scale),
         unit,
     );
 }

@@ -56,7 +56,7 @@ fn right_call(random: &mut Random, in_reach: bool) -> Call {
 }
 
 /// Some are numbers of algebras again where high bits are dropped.
-fn wrong_algebra(random: &mut Random, right: u32) -> u32 {
+pub(crate) fn wrong_algebra(random: &mut Random, right: u32) -> u32 {
     let large = 3 + (random.next_u64() >> 33) as u32;
     random.pick(&[
         3,
@@ -70,12 +70,20 @@ fn wrong_algebra(random: &mut Random, right: u32) -> u32 {
     ])
 }
 
-/// Some are right sizes where high bits are dropped. The lengths stay as they are, or fit the new size, or fit what
-/// 64 bits make of its square.
+/// The lengths stay as they are, or fit the new size, or fit what 64 bits make of its square.
 fn damage_size(random: &mut Random, call: &mut Call) {
-    let right = call.size;
+    call.size = wrong_size(random, call.size);
+    let wrapped = call.size.wrapping_mul(call.size).wrapping_mul(2);
+    if wrapped <= 100_000 && random.one_in(2) {
+        call.weights.resize(wrapped, 0);
+        call.result_len = wrapped;
+    }
+}
+
+/// Some are right sizes where high bits are dropped.
+pub(crate) fn wrong_size(random: &mut Random, right: usize) -> usize {
     let large = MAX_SIZE + 1 + (random.next_u64() >> 8) as usize;
-    call.size = random.pick(&[
+    random.pick(&[
         0,
         MAX_SIZE + 1,
         MAX_SIZE + right,
@@ -88,12 +96,7 @@ fn damage_size(random: &mut Random, call: &mut Call) {
         usize::MAX,
         usize::MAX - right,
         large,
-    ]);
-    let wrapped = call.size.wrapping_mul(call.size).wrapping_mul(2);
-    if wrapped <= 100_000 && random.one_in(2) {
-        call.weights.resize(wrapped, 0);
-        call.result_len = wrapped;
-    }
+    ])
 }
 
 /// Odd ones too, and the number of words in the place of the number of bytes.
@@ -115,13 +118,18 @@ fn wrong_len(random: &mut Random, right: usize) -> usize {
     }
 }
 
-/// One word above 1, anywhere or at an end or on the diagonal. Some have a byte that is 0 or 1.
 fn damage_word(random: &mut Random, call: &mut Call) {
-    let n = call.size;
+    let (place, word) = wrong_word(random, call.size);
+    call.weights[2 * place..2 * place + 2].copy_from_slice(&word.to_le_bytes());
+}
+
+/// A place in the table, anywhere or at an end or on the diagonal, and a word above 1 for it. Some have a byte that is
+/// 0 or 1.
+pub(crate) fn wrong_word(random: &mut Random, n: usize) -> (usize, u16) {
     let diagonal = random.below(n) * (n + 1);
     let anywhere = random.below(n * n);
     let place = random.pick(&[0, n * n - 1, diagonal, anywhere, anywhere]);
     let large = random.word().max(2);
-    let word: u16 = random.pick(&[2, 3, 255, 256, 257, 0x8000, 0xFF01, 65535, large]);
-    call.weights[2 * place..2 * place + 2].copy_from_slice(&word.to_le_bytes());
+    let word = random.pick(&[2, 3, 255, 256, 257, 0x8000, 0xFF01, 65535, large]);
+    (place, word)
 }

@@ -18,6 +18,16 @@ pub fn eliminate(algebra: Algebra, size: usize, weights: &[u16]) -> Vec<u16> {
     table
 }
 
+/// The tables that the elimination goes through: with the diagonal set, and after each step. The last is the closure.
+pub fn stages(algebra: Algebra, size: usize, weights: &[u16]) -> Vec<Vec<u16>> {
+    let mut stages = vec![with_own_diagonal(algebra, size, weights)];
+    for k in 0..size {
+        let next = step(algebra, size, &stages[k], k);
+        stages.push(next);
+    }
+    stages
+}
+
 fn with_own_diagonal(algebra: Algebra, size: usize, weights: &[u16]) -> Vec<u16> {
     let mut table = weights.to_vec();
     for i in 0..size {

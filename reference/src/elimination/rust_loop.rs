@@ -41,7 +41,7 @@ impl RustLoop {
 
 /// In place: step k leaves row k and column k as they are, since entry (k, k) is the own word. Row k is copied to
 /// `via` so that the compiler sees that no store changes it.
-fn close(
+pub(crate) fn close(
     table: &mut [u16],
     via: &mut [u16],
     sum: impl Fn(u16, u16) -> u16,

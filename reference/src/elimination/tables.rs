@@ -3,7 +3,7 @@
 use crate::algebra::Algebra;
 use crate::random::Random;
 
-#[derive(Clone, Copy, Debug)]
+#[derive(Clone, Copy, Debug, PartialEq, Eq)]
 pub enum Kind {
     /// About two links a point: long ways, and pairs with none.
     Sparse,
@@ -38,7 +38,7 @@ pub fn table(random: &mut Random, algebra: Algebra, size: usize, kind: Kind) -> 
     table
 }
 
-fn any_word(random: &mut Random, algebra: Algebra) -> u16 {
+pub(crate) fn any_word(random: &mut Random, algebra: Algebra) -> u16 {
     match algebra {
         Algebra::Reach => random.below(2) as u16,
         Algebra::Distance | Algebra::Steepest => random.word(),
