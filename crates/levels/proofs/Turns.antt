@@ -7,7 +7,7 @@ use mathlib.Core.Logic.{inl, inr}
 use mathlib.Core.List.{List}
 use lib.ListN.{length, getD}
 use Rattle.semiring.specs.declared.Algebra.{Algebra}
-use Rattle.levels.specs.inner.Search.{Keeps, JoinedIn, Grown, Seen, Visited, Met, Linked, Searched, Climbed, Ended}
+use Rattle.levels.specs.inner.Search.{Keeps, JoinedIn, Grown, Seen, Visited, Met, Linked, Searched, LevelDone, Ended}
 use Rattle.levels.proofs.Searching.{grown-none, grown-then, grown-standing, joined-still}
 
 -- `join`: the points below v were seen from u
@@ -47,22 +47,22 @@ module _ {a : Algebra} {n to : ℕ} {w c : List ℕ} {r u : ℕ} {level next : L
     pub link-ends : n ≤ v → Linked a n to w c r u level next l′ x′
     link-ends h = record { grown = k .grown; joined = λ e x b. k .sofar x (omega arith) }
 
--- `climb`: the points of level r below u were joined
-pub record Climbing (a : Algebra) (n to : ℕ) (w c : List ℕ) (r : ℕ) (level next level′ next′ : List ℕ) (u : ℕ) : Type 0 where
+-- `next_level`: the points of level r below u were joined
+pub record LevelBegun (a : Algebra) (n to : ℕ) (w c : List ℕ) (r : ℕ) (level next level′ next′ : List ℕ) (u : ℕ) : Type 0 where
   pub grown : Grown a n to w c r level next level′ next′
   pub most : u ≤ n
   pub sofar : (x : ℕ) → x < u → getD level′ x 0 ≡ r → JoinedIn a n to w c level′ x
 
 module _ {a : Algebra} {n to : ℕ} {w c : List ℕ} {r : ℕ} {level next : List ℕ} (s : Searched a n to w c r level next) where
-  pub climb-begins : Climbing a n to w c r level next level next 0
-  climb-begins = record { grown = grown-none (s .standing); most = omega arith; sofar = λ x h. absurd (omega arith) }
+  pub level-begins : LevelBegun a n to w c r level next level next 0
+  level-begins = record { grown = grown-none (s .standing); most = omega arith; sofar = λ x h. absurd (omega arith) }
 
-  module _ {l′ x′ : List ℕ} {u : ℕ} (k : Climbing a n to w c r level next l′ x′ u) where
-    pub climb-met : r ≤ n → u < n → Met a n to w c r u l′ x′
-    climb-met most h = record { standing = grown-standing (s .standing) (k .grown); least = s .least; most = most; u-inside = h }
+  module _ {l′ x′ : List ℕ} {u : ℕ} (k : LevelBegun a n to w c r level next l′ x′ u) where
+    pub level-met : r ≤ n → u < n → Met a n to w c r u l′ x′
+    level-met most h = record { standing = grown-standing (s .standing) (k .grown); least = s .least; most = most; u-inside = h }
 
-    pub climb-goes-on : {l″ x″ : List ℕ} → u < n → Linked a n to w c r u l′ x′ l″ x″ → Climbing a n to w c r level next l″ x″ (u + 1)
-    climb-goes-on {l″} b g = record {
+    pub level-goes-on : {l″ x″ : List ℕ} → u < n → Linked a n to w c r u l′ x′ l″ x″ → LevelBegun a n to w c r level next l″ x″ (u + 1)
+    level-goes-on {l″} b g = record {
       grown = grown-then (k .grown) (g .grown);
       most = omega arith;
       sofar = λ x h e. at x h (sym (g .grown .fresh x (omega arith)) ∙ e) (ℕ-discrete x u);
@@ -72,8 +72,8 @@ module _ {a : Algebra} {n to : ℕ} {w c : List ℕ} {r : ℕ} {level next : Lis
         at x h e (yes q) = rw q (g .joined (rw q at e))
         at x h e (no q) = joined-still x (g .grown) (k .sofar x (omega arith) e)
 
-    pub climb-ends : n ≤ u → Climbed a n to w c r level next l′ x′
-    climb-ends h = record {
+    pub level-ends : n ≤ u → LevelDone a n to w c r level next l′ x′
+    level-ends h = record {
       grown = k .grown;
       searched = record {
         standing = grown-standing (s .standing) (k .grown);
@@ -89,19 +89,19 @@ module _ {a : Algebra} {n to : ℕ} {w c : List ℕ} {r : ℕ} {level next : Lis
             joined-still x (k .grown) (s .joined x b (omega arith) (omega (arith, f)))
 
 -- `search`: the levels below r are done, and the memories are as long as they were
-pub record Rising (a : Algebra) (n to : ℕ) (w c level next : List ℕ) (r : ℕ) (level′ next′ : List ℕ) : Type 0 where
+pub record LevelsDone (a : Algebra) (n to : ℕ) (w c level next : List ℕ) (r : ℕ) (level′ next′ : List ℕ) : Type 0 where
   pub searched : Searched a n to w c r level′ next′
   pub most : r ≤ n + 1
   pub levels-size : length level′ ≡ length level
   pub nexts-size : length next′ ≡ length next
 
 module _ {a : Algebra} {n to : ℕ} {w c level next : List ℕ} where
-  pub rise-begins : Searched a n to w c 1 level next → Rising a n to w c level next 1 level next
-  rise-begins s = record { searched = s; most = omega arith; levels-size = refl; nexts-size = refl }
+  pub levels-begin : Searched a n to w c 1 level next → LevelsDone a n to w c level next 1 level next
+  levels-begin s = record { searched = s; most = omega arith; levels-size = refl; nexts-size = refl }
 
-  module _ {r : ℕ} {l′ x′ : List ℕ} (k : Rising a n to w c level next r l′ x′) where
-    pub rise-goes-on : {l″ x″ : List ℕ} → r ≤ n → Climbed a n to w c r l′ x′ l″ x″ → Rising a n to w c level next (r + 1) l″ x″
-    rise-goes-on h g = record {
+  module _ {r : ℕ} {l′ x′ : List ℕ} (k : LevelsDone a n to w c level next r l′ x′) where
+    pub levels-go-on : {l″ x″ : List ℕ} → r ≤ n → LevelDone a n to w c r l′ x′ l″ x″ → LevelsDone a n to w c level next (r + 1) l″ x″
+    levels-go-on h g = record {
       searched = g .searched;
       most = omega arith;
       levels-size = g .grown .levels-size ∙ k .levels-size;
@@ -109,11 +109,11 @@ module _ {a : Algebra} {n to : ℕ} {w c level next : List ℕ} where
     }
 
     -- `from` has a level; or no level is left
-    pub rise-reaches : {from : ℕ} → (getD l′ from 0 ≡ 0 → ⊥) → Ended a n to w c from l′ x′
-    rise-reaches f = record { standing = k .searched .standing; enough = inl (omega arith) }
+    pub levels-reach : {from : ℕ} → (getD l′ from 0 ≡ 0 → ⊥) → Ended a n to w c from l′ x′
+    levels-reach f = record { standing = k .searched .standing; enough = inl (omega arith) }
 
-    pub rise-ends : {from : ℕ} → n < r → Ended a n to w c from l′ x′
-    rise-ends h = record {
+    pub levels-end : {from : ℕ} → n < r → Ended a n to w c from l′ x′
+    levels-end h = record {
       standing = k .searched .standing;
       enough = inr (λ u b p q. k .searched .joined u b p (omega (arith, k .most)));
     }

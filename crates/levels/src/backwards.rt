@@ -1,7 +1,7 @@
 // Levels of points backwards from a target: the target has level 1, and a point without a level gets r + 1 where the link from
 // it to a point of level r keeps its word in the closed table.
 ghost use Prim.Native.Nat.{_≤_, _<_};
-ghost use Rattle.levels.specs.inner.Search.{Seen, Visited, Met, Linked, Searched, Climbed, Ended};
+ghost use Rattle.levels.specs.inner.Search.{Seen, Visited, Met, Linked, Searched, LevelDone, Ended};
 use semiring::Algebra;
 use semiring::product;
 
@@ -65,7 +65,7 @@ fn join(
 }
 
 // Every point of level r joined.
-fn climb(
+fn next_level(
     target: Target,
     links: &[u16],
     closed: &[u16],
@@ -75,7 +75,7 @@ fn climb(
 )
     requires { ⌜ Searched (target .algebra) (target .size) (target .point) (now links) (now closed) r (now level) (now next)
         × (r ≤ target .size) ⌝ }
-    ensures { λ _. ⌜ Climbed (target .algebra) (target .size) (target .point) (now (links .entry)) (now (closed .entry)) r
+    ensures { λ _. ⌜ LevelDone (target .algebra) (target .size) (target .point) (now (links .entry)) (now (closed .entry)) r
         (now (level .entry)) (now (next .entry)) (now (level .exit)) (now (next .exit)) ⌝ }
 {
     let mut u = 0;
@@ -104,7 +104,7 @@ pub fn search(
         if level[from] != 0 {
             return;
         }
-        climb(target, links, closed, r, level, next);
+        next_level(target, links, closed, r, level, next);
         r += 1;
     }
 }

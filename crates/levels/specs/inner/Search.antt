@@ -77,7 +77,7 @@ pub record Searched (a : Algebra) (n to : ℕ) (w c : List ℕ) (r : ℕ) (level
   pub joined : JoinedBelow a n to w c r level
 
 -- One level more.
-pub record Climbed (a : Algebra) (n to : ℕ) (w c : List ℕ) (r : ℕ) (level next level′ next′ : List ℕ) : Type 0 where
+pub record LevelDone (a : Algebra) (n to : ℕ) (w c : List ℕ) (r : ℕ) (level next level′ next′ : List ℕ) : Type 0 where
   pub grown : Grown a n to w c r level next level′ next′
   pub searched : Searched a n to w c (r + 1) level′ next′
 

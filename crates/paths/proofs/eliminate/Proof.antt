@@ -15,7 +15,10 @@ eliminate-spec =
     (λ c. search needs)
     (λ c. search refused)
     -- the elimination
-    (λ c κs. let k : tie.After-checked = search needs in to-lay-out (k .before .before .check .ensures) (k .checked .given .1))
+    (λ c κs.
+    let fit : tie.After-checked = search needs in
+    let found : tie.After-check = search needs in
+    to-lay-out (found .check .ensures) (fit .checked .given .1))
     (λ c κs. search to-close)
     (λ c. search needs)
     (λ c. search accepted))

@@ -1,7 +1,7 @@
--- `search` climbs level after level (Rising) until `from` has one, or none is left.
+-- `search` goes level after level (LevelsDone) until `from` has one, or none is left.
 use Prim.Native.Nat.{_-_, _+_}
 use borrow.Author.Needs.{needs}
-use Rattle.levels.proofs.Turns.{Rising, rise-begins, rise-goes-on, rise-reaches, rise-ends}
+use Rattle.levels.proofs.Turns.{LevelsDone, levels-begin, levels-go-on, levels-reach, levels-end}
 use Rattle.levels.proofs.backwards.search.Statement.{statement}
 use Rattle.levels.proofs.backwards.search.Tie as tie
 
@@ -10,21 +10,21 @@ search-spec =
     tie.close
     (tie.spec
     (λ target links closed from level₀ next₀ r₀ level next r.
-    Rising (target .algebra) (target .size) (target .point) links closed level₀ next₀ r level next)
+    LevelsDone (target .algebra) (target .size) (target .point) links closed level₀ next₀ r level next)
     (λ target links closed from level₀ next₀ r₀ level next r. target .size + 1 - r)
-    (λ c. search rise-begins)
+    (λ c. search levels-begin)
     -- `from` has a level
     (λ c. search needs)
     (λ c. search needs)
     (λ c. search needs)
     (λ c. search needs)
-    (λ c. search (rise-reaches, c .if2 .taken))
+    (λ c. search (levels-reach, c .if2 .taken))
     -- a turn
     (λ c κs. search needs)
     (λ c. search needs)
     (λ c. search needs)
-    (λ c. search rise-goes-on)
+    (λ c. search levels-go-on)
     -- the end
     (λ c. search needs)
     (λ c. search needs)
-    (λ c. search rise-ends))
+    (λ c. search levels-end))
