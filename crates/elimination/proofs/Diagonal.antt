@@ -1,133 +1,131 @@
--- The table with its diagonal set, by the places of a memory: from one place on the diagonal to the next there are n others.
-use Prim.Native.Nat.{ℕ, zero, suc, _+_, _*_, _-_, _/_, _%_, _<_, _≤_, zero-le}
-use native.Mathlib.Nat.{mul-le-mul-right, div-add-mod', add-sub-cancel-left}
+-- The walk that lays out a table, by the places of a memory: from one place on the diagonal to the next there are n others.
+use Prim.Native.Nat.{ℕ, _+_, _*_, _-_, _/_, _%_, _<_, _≤_, min, zero-le}
+use native.Mathlib.Nat.{mul-le-mul-right, div-add-mod'}
 use native.Mathlib.Decide.{decLt}
 use native.Mathlib.Omega.{arith}
 use mathlib.Core.Path.{_≡_, refl, sym, ap, _∙_}
 use mathlib.Core.List.{List}
+use mathlib.Core.Bool.{cond}
 use lib.Arith.{digits-div, digits-mod}
+use lib.Dec.{eqb}
 use lib.ListN.{length, getD, set, take, drop, length-set}
 use mir.Syntax.{w64}
 use mir.Val.{Fits}
-use lib.Dec.{eqb}
-use mathlib.Core.Bool.{cond}
 use borrow.Author.Tests.{eq-eqb, ne-eqb}
-use Rattle.memory.specs.Lists.{listOf, replaced}
-use Rattle.memory.proofs.Geometry.{square-fits}
-use Rattle.memory.proofs.Part.{part-length, part-word}
+use Rattle.memory.specs.Lists.{replaced}
 use Rattle.memory.specs.Walked.{Walked}
-use Rattle.memory.proofs.Walk.{walked-none, walked-one, walked-part, walked-to, walked-all}
+use Rattle.memory.proofs.Geometry.{square-fits}
+use Rattle.memory.proofs.ListOf.{length-listOf, getD-listOf}
+use Rattle.memory.proofs.Part.{part-length, part-word}
+use Rattle.memory.proofs.Walk.{walked-none, walked-one, walked-part, walked-to, spanned-as, walked-same, walked-front}
 use Rattle.semiring.specs.Algebra.{ownOf}
 use Rattle.semiring.specs.declared.Algebra.{Algebra}
 use Rattle.closure.specs.Table.{entries, rowByRow, withOwn}
+use Rattle.elimination.specs.LaidOut.{laidOut, ToLayOut}
 
--- What stands at place p.
+-- What is to stand at place p.
 abbrev pub laid : ℕ → ℕ → List ℕ → ℕ → ℕ → ℕ
-laid own n w p word = cond (eqb (p / n) (p % n)) own (entries n w (p / n) (p % n))
+laid own n weights p word = cond (eqb (p / n) (p % n)) own (entries n weights (p / n) (p % n))
 
--- `at` is the i-th place on the diagonal, i counted from 1
-module _ (own n : ℕ) (w : List ℕ) where
-  pub on-diagonal : (i at : ℕ) → 1 ≤ i → i ≤ n → at + n + 1 ≡ i * n + i → laid own n w at 0 ≡ own
-  on-diagonal zero at least most e = absurd (omega arith)
-  on-diagonal (suc d) at least most e =
-      let place : at ≡ d * n + d = omega arith in
-      rw (place, digits-div d most, digits-mod d most, eq-eqb d d refl)
+module _ (own n : ℕ) (weights : List ℕ) where
+  on-diagonal : (d at : ℕ) → at ≡ d * n + d → d < n → laid own n weights at 0 ≡ own
+  on-diagonal d at e h = rw (e, digits-div d h, digits-mod d h, eq-eqb d d refl)
 
-  -- where `at` and the n places that follow end
-  pub stretch-fits : (i at : ℕ) → i < n → at + n + 1 ≡ i * n + i → at + 1 + n ≤ n * n
-  stretch-fits i at h e = omega (arith, mul-le-mul-right n h)
-
-  pub last-place : (i at : ℕ) → i ≡ n → at + n + 1 ≡ i * n + i → at + 1 ≡ n * n
-  last-place i at h e = omega (arith, ap (λ (m : ℕ). m * n) h)
-
-  -- the n places that follow are not on it: a place d * n + d lies at or before `at`, or at or past the next
-  pub off-diagonal : (i at j : ℕ) → at + n + 1 ≡ i * n + i → j < n → laid own n w (at + 1 + j) 0 ≡ getD w (at + 1 + j) 0
-  off-diagonal i at j e h =
+  -- the n places that follow are not on it: a place c * n + c lies at or before `at`, or at or past the next
+  off-diagonal : (d at j : ℕ) → at ≡ d * n + d → j < n → laid own n weights (at + 1 + j) 0 ≡ getD weights (at + 1 + j) 0
+  off-diagonal d at j e h =
       let p : ℕ = at + 1 + j in
       let whole : p / n * n + p % n ≡ p = div-add-mod' p n in
-      rw (ne-eqb (p / n) (p % n) (λ same. no-diagonal (p / n) (rw (← same) at whole) (decLt (p / n) i))) (rw whole)
+      rw (ne-eqb (p / n) (p % n) (λ same. no-diagonal (p / n) (rw (← same) at whole) (decLt d (p / n)))) (rw whole)
     where
-      no-diagonal : (d : ℕ) → d * n + d ≡ at + 1 + j → Dec (d < i) → ⊥
-      no-diagonal d place (yes before) = omega (arith, mul-le-mul-right n before)
-      no-diagonal d place (no after) = omega (arith, mul-le-mul-right {m = i} {n = d} n (omega arith))
+      no-diagonal : (c : ℕ) → c * n + c ≡ at + 1 + j → Dec (d < c) → ⊥
+      no-diagonal c place (yes past) = omega (arith, mul-le-mul-right n past)
+      no-diagonal c place (no before) = omega (arith, mul-le-mul-right {m = c} {n = d} n (omega arith))
 
--- The stretches before the i-th place on the diagonal, `at`, were laid out over `old`, and the memory is l.
-pub record Laying (own n : ℕ) (weights old : List ℕ) (i at : ℕ) (l : List ℕ) : Type 0 where
-  pub least : 1 ≤ i
-  pub most : i ≤ n
-  pub place : at + n + 1 ≡ i * n + i
-  pub walked : Walked (laid own n weights) old at l
+-- a place on the diagonal that is inside is in one of the n rows
+in-rows : (d n : ℕ) → d * n + d < n * n → Dec (d < n) → d < n
+in-rows d n h (yes k) = k
+in-rows d n h (no k) = absurd (omega (arith, mul-le-mul-right {m = n} {n = d} n (omega arith)))
 
-pub begins : {own n : ℕ} {weights old : List ℕ} → 0 < n → Laying own n weights old 1 0 old
-begins h = record { least = omega arith; most = h; place = omega arith; walked = walked-none }
+-- The first m steps over `old`, where the walk has come to the place `at` on the diagonal, or past m, and the memory is l.
+pub record Laying (own n m : ℕ) (weights old : List ℕ) (at : ℕ) (l : List ℕ) : Type 0 where
+  pub row : ℕ
+  pub place : at ≡ row * n + row
+  pub walked : Walked (laid own n weights) old (min at m) l
 
--- What the code asks before it lays out the next stretch, and before the last own word.
-module _ {own n : ℕ} {weights old : List ℕ} {i at : ℕ} {l : List ℕ} (c : Laying own n weights old i at l)
-    (small : n ≤ 128) (size : length old ≡ n * n) (same : length weights ≡ n * n) where
-  room : i < n → (at + 1 + n ≤ length l) × (at + 1 + n ≤ length weights) × (length l ≤ 16384)
-  room h = (
-    omega (arith, stretch-fits own n weights i at h (c .place), c .walked .size),
-    omega (arith, stretch-fits own n weights i at h (c .place)),
-    omega (arith, square-fits small, c .walked .size),
-  )
+pub begins : {own n m : ℕ} {weights old : List ℕ} → Laying own n m weights old 0 old
+begins {n = n} = record { row = 0; place = omega arith; walked = walked-to walked-none (omega arith) }
 
-  pub place-bytes : i < n → Fits w64 (at * 2)
-  place-bytes h = omega (arith, room h)
+module _ {own n m : ℕ} {weights old : List ℕ} {at : ℕ} {l : List ℕ} (c : Laying own n m weights old at l) (asked : ToLayOut n m weights old) where
+  -- what the code asks before it lays out the next stretch
+  module _ (h : at < m) where
+    room : (at < length l) × (length l ≤ 16384)
+    room = (omega (arith, asked .table-fit, asked .steps, c .walked .size), omega (arith, square-fits (asked .most), asked .table-fit, c .walked .size))
 
-  pub place-inside : i < n → at < length l
-  place-inside h = omega (arith, room h)
+    pub place-bytes : Fits w64 (at * 2)
+    place-bytes = omega (arith, room)
 
-  pub from-room : i < n → Fits w64 (at + 1)
-  from-room h = omega (arith, room h)
+    pub place-inside : at < length l
+    place-inside = room .0
 
-  pub from-bytes : i < n → Fits w64 ((at + 1) * 2)
-  from-bytes h = omega (arith, room h)
+    pub from-room : Fits w64 (at + 1)
+    from-room = omega (arith, room)
 
-  pub to-room : i < n → Fits w64 (at + 1 + n)
-  to-room h = omega (arith, room h)
+    pub from-bytes : Fits w64 ((at + 1) * 2)
+    from-bytes = omega (arith, room)
 
-  pub weights-inside : i < n → at + 1 + n ≤ length weights
-  weights-inside h = room h .1
+    pub next-room : Fits w64 (at + 1 + n)
+    next-room = omega (arith, room, asked .most)
 
-  pub table-inside : i < n → at + 1 + n ≤ length (set l at own)
-  table-inside h = simp length-set (room h .0)
+    module _ {to : ℕ} (e : to ≡ min (at + 1 + n) m) where
+      pub to-from : at + 1 ≤ to
+      to-from = omega arith
 
-  pub last-bytes : n ≤ i → Fits w64 (at * 2)
-  last-bytes h = omega (arith, last-place own n weights i at (omega (arith, c .most)) (c .place), square-fits small)
+      pub weights-inside : to ≤ length weights
+      weights-inside = omega (arith, asked .weights-fit, asked .steps)
 
-  pub last-inside : n ≤ i → at < length l
-  last-inside h = omega (arith, last-place own n weights i at (omega (arith, c .most)) (c .place), c .walked .size)
+      pub table-inside : to ≤ length (set l at own)
+      table-inside = simp length-set (omega (arith, asked .table-fit, asked .steps, c .walked .size))
 
-  -- the own word, then a stretch of the weights lent and copied, with the width as the code computes it
-  pub goes-on : {new : List ℕ} → i < n
-      → (let w : ℕ = at + 1 + n - (at + 1) in
-      let from : List ℕ = take w (drop (at + 1) weights) in
-      Walked (λ p word. getD from p 0) (take w (drop (at + 1) (set l at own))) (length from) new)
-      → Laying own n weights old (i + 1) (at + 1 + n) (replaced (at + 1) (at + 1 + n - (at + 1)) new (set l at own))
-  goes-on {new} h copied =
-      let w : ℕ = at + 1 + n - (at + 1) in
-      let width : w ≡ n = add-sub-cancel-left (at + 1) n in
-      let fits : at + 1 + w ≤ n * n = omega (arith, stretch-fits own n weights i at h (c .place)) in
-      let first = walked-one own (c .walked) (omega arith) (sym (on-diagonal own n weights i at (c .least) (c .most) (c .place))) in
-      let from : length (take w (drop (at + 1) weights)) ≡ w = part-length (at + 1) w weights (omega arith) in
-      let to : length (take w (drop (at + 1) (set l at own))) ≡ w = part-length (at + 1) w (set l at own) (omega (arith, first .size)) in
-      record {
-        least = omega arith;
-        most = omega arith;
-        place = omega (arith, c .place);
-        walked = walked-to
-            (walked-part w new first (omega arith) (copied .size ∙ to)
-            (λ j k.
-            copied .inside j zero-le (omega arith)
-            ∙ part-word (at + 1) w weights (omega arith) j k
-            ∙ sym (off-diagonal own n weights i at j (c .place) (omega arith))))
-            (omega arith);
-      }
+      -- the own word, then the words of the weights up to `to`, given back as `new`
+      pub goes-on : (new : List ℕ) → length new ≡ to - (at + 1) → ((j : ℕ) → j < to - (at + 1) → getD new j 0 ≡ getD weights (at + 1 + j) 0)
+          → Laying own n m weights old (at + 1 + n) (replaced (at + 1) (to - (at + 1)) new (set l at own))
+      goes-on new size word =
+          let inside : at < length old = omega (arith, asked .table-fit, asked .steps) in
+          let d : c .row < n = in-rows (c .row) n (omega (arith, c .place, asked .table-fit)) (decLt (c .row) n) in
+          let come : Walked (laid own n weights) old at l = walked-to (c .walked) (omega arith) in
+          let first = walked-one own come inside (sym (on-diagonal own n weights (c .row) at (c .place) d)) in
+          record {
+            row = c .row + 1;
+            place = omega (arith, c .place);
+            walked = walked-to
+                (walked-part (to - (at + 1)) new first (omega (arith, asked .table-fit, asked .steps)) size
+                (λ j k. word j k ∙ sym (off-diagonal own n weights (c .row) at j (c .place) (omega arith))))
+                (omega arith);
+          }
 
-  pub ends : (a : Algebra) → n ≤ i → own ≡ ownOf a → set l at own ≡ rowByRow n (withOwn a (entries n weights))
-  ends a h word =
-      let last : at + 1 ≡ n * n = last-place own n weights i at (omega (arith, c .most)) (c .place) in
-      let done = walked-one own (c .walked) (omega arith) (sym (on-diagonal own n weights i at (c .least) (c .most) (c .place))) in
-      (rw size at (walked-all done (omega arith))) ∙ ap (λ (x : ℕ). listOf (n * n) (λ p. laid x n weights p 0)) word
+      -- so too, where they were lent and copied
+      pub copied : {new : List ℕ}
+          → (let from : List ℕ = take (to - (at + 1)) (drop (at + 1) weights) in
+          Walked (λ p word. getD from p 0) (take (to - (at + 1)) (drop (at + 1) (set l at own))) (length from) new)
+          → Laying own n m weights old (at + 1 + n) (replaced (at + 1) (to - (at + 1)) new (set l at own))
+      copied {new} c′ =
+          let w : ℕ = to - (at + 1) in
+          let fits : at + 1 + w ≤ length weights = omega (arith, weights-inside) in
+          let from : length (take w (drop (at + 1) weights)) ≡ w = part-length (at + 1) w weights fits in
+          let into : length (take w (drop (at + 1) (set l at own))) ≡ w = part-length (at + 1) w (set l at own) (omega (arith, table-inside)) in
+          goes-on new (c′ .size ∙ into) (λ j k. c′ .inside j zero-le (omega arith) ∙ part-word (at + 1) w weights fits j k)
 
-pub ruleset stretch = (place-bytes, place-inside, from-room, from-bytes, to-room, weights-inside, table-inside)
+  pub ends : (a : Algebra) → m ≤ at → own ≡ ownOf a → l ≡ laidOut a n m weights old
+  ends a h e =
+      let table : List ℕ = rowByRow n (withOwn a (entries n weights)) in
+      let size : length table ≡ n * n = length-listOf (n * n) (λ p. withOwn a (entries n weights) (p / n) (p % n)) in
+      let come : Walked (laid own n weights) old m l = walked-to (c .walked) (omega arith) in
+      walked-same
+      (spanned-as come
+      (λ p u k.
+      ap (λ (x : ℕ). laid x n weights p 0) e
+      ∙ sym (getD-listOf (n * n) (λ q. withOwn a (entries n weights) (q / n) (q % n)) p (omega (arith, asked .steps)))))
+      (walked-front table old m (omega (arith, asked .steps)) (omega (arith, asked .steps, asked .table-fit)))
+
+pub ruleset stretch = (place-bytes, place-inside, from-room, from-bytes, next-room, to-from, weights-inside, table-inside)

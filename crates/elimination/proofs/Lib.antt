@@ -1,5 +1,6 @@
 pub mod Diagonal
 pub mod Geometry
+pub mod OneWalk
 pub mod Points
 pub mod Rows
 pub mod Through

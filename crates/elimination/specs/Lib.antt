@@ -1,1 +1,3 @@
+pub mod LaidOut
 pub mod inner
+pub mod claims

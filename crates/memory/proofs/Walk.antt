@@ -5,9 +5,9 @@ use native.Mathlib.Omega.{arith}
 use native.Mathlib.Decide.{decLt, ℕ-discrete}
 use mathlib.Core.Path.{_≡_, refl, sym, ap, _∙_}
 use mathlib.Core.Logic.{_≢_}
-use mathlib.Core.List.{List}
-use lib.ListN.{length, getD, set, drop, replicate, length-set, length-drop, length-replicate, getD-replicate}
-use lib.Seq.{getD-set-same, getD-set-other, getD-drop, ext-getD}
+use mathlib.Core.List.{List, _++_}
+use lib.ListN.{length, getD, set, take, drop, replicate, length-set, length-take, length-drop, length-append, length-replicate, getD-replicate, List·getD-append}
+use lib.Seq.{getD-set-same, getD-set-other, getD-take, getD-drop, getD-append-add, length-take-le, ext-getD}
 use Rattle.memory.specs.Lists.{listOf, replaced}
 use Rattle.memory.specs.Walked.{Spanned, Walked}
 use Rattle.memory.proofs.ListOf.{is-listOf}
@@ -100,6 +100,33 @@ module _ {f : ℕ → ℕ → ℕ} {old : List ℕ} where
 
   pub walked-all : {l : List ℕ} {m : ℕ} → Walked f old m l → m ≡ length old → l ≡ listOf (length old) (λ p. f p (getD old p 0))
   walked-all {l} c e = is-listOf (length old) (λ p. f p (getD old p 0)) l (c .size) (λ p h. c .inside p zero-le (omega arith))
+
+-- A walk has one outcome.
+pub walked-same : {f : ℕ → ℕ → ℕ} {old l l′ : List ℕ} {m : ℕ} → Walked f old m l → Walked f old m l′ → l ≡ l′
+walked-same {f} {old} {l} {l′} {m} c c′ = ext-getD 0 l l′ (c .size ∙ sym (c′ .size)) (λ p h. at p (decLt p m))
+  where
+    at : (p : ℕ) → Dec (p < m) → getD l p 0 ≡ getD l′ p 0
+    at p (yes k) = c .inside p zero-le k ∙ sym (c′ .inside p zero-le k)
+    at p (no k) = c .after p (omega arith) ∙ sym (c′ .after p (omega arith))
+
+-- A walk that takes its words from a list leaves the list's first m words, and after them the old ones.
+pub walked-front : (from old : List ℕ) (m : ℕ) → m ≤ length from → m ≤ length old → Walked (λ p word. getD from p 0) old m (take m from ++ drop m old)
+walked-front from old m h h′ = record {
+  size = simp (length-append, length-take, length-drop) (omega arith);
+  inside = λ p u k. List·getD-append (take m from) (drop m old) 0 p (omega (arith, front)) ∙ getD-take m from p 0 k;
+  before = λ p k. absurd (omega arith);
+  after = λ p k. at (p - m) p (omega arith);
+}
+  where
+    front : length (take m from) ≡ m
+    front = length-take-le m from h
+
+    at : (j p : ℕ) → p ≡ m + j → getD (take m from ++ drop m old) p 0 ≡ getD old p 0
+    at j p e =
+        ap (λ (q : ℕ). getD (take m from ++ drop m old) q 0) (e ∙ ap (λ (q : ℕ). q + j) (sym front))
+        ∙ getD-append-add (take m from) (drop m old) j 0
+        ∙ getD-drop m old j 0
+        ∙ ap (λ (q : ℕ). getD old q 0) (sym e)
 
 -- A loop that walks word by word, where it has come to word m: the invariant of such loops, its begin, one turn and its end.
 pub record Walking (f : ℕ → ℕ → ℕ) (old : List ℕ) (m : ℕ) (l : List ℕ) : Type 0 where

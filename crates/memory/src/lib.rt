@@ -1,6 +1,6 @@
 // Lent memory: the walks over words that every crate above uses, and under specs/ and proofs/ the laws of lists of words.
 ghost use mathlib.Core.Path.{_≡_};
-ghost use Prim.Native.Nat.{_≤_};
+ghost use Prim.Native.Nat.{_≤_, min};
 ghost use lib.ListN.{length, getD, replicate};
 ghost use Rattle.memory.specs.Lists.{same};
 ghost use Rattle.memory.specs.Walked.{Walked};
@@ -42,4 +42,10 @@ pub fn same_words(words: &[u16], others: &[u16]) -> bool
         q += 1;
     }
     alike
+}
+
+pub fn smaller(x: usize, y: usize) -> usize
+    ensures { λ r. ⌜ r ≡ min x y ⌝ }
+{
+    if x < y { x } else { y }
 }

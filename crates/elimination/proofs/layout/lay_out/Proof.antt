@@ -1,9 +1,9 @@
--- `lay_out` goes from one place on the diagonal to the next and lays out the stretch between them (Laying).
+-- `lay_out` goes from one place on the diagonal to the next and lays out the stretch between them, as far as m (Laying).
 use Prim.Native.Nat.{_-_}
 use native.Mathlib.Omega.{arith}
 use lib.ListN.{length-set, length-take, length-drop}
 use borrow.Author.Needs.{needs}
-use Rattle.elimination.proofs.Diagonal.{Laying, begins, stretch, goes-on, last-bytes, last-inside, ends}
+use Rattle.elimination.proofs.Diagonal.{Laying, begins, stretch, copied, ends}
 use Rattle.elimination.proofs.layout.lay_out.Statement.{statement}
 use Rattle.elimination.proofs.layout.lay_out.Tie as tie
 
@@ -11,8 +11,8 @@ pub lay-out-spec : {M : Type 1} → statement M
 lay-out-spec =
     tie.close
     (tie.spec
-    (λ n weights table₀ word i₀ at₀ table i at. Laying word n weights table₀ i at table)
-    (λ n weights table₀ word i₀ at₀ table i at. n - i)
+    (λ n m weights table₀ word at₀ table at. Laying word n m weights table₀ at table)
+    (λ n m weights table₀ word at₀ table at. m - at)
     (λ c κs. search needs)
     (λ c. search begins)
     -- the own word
@@ -21,21 +21,18 @@ lay-out-spec =
     -- the stretch of the weights, and that of the table
     (λ c. search stretch)
     (λ c. search stretch)
-    (λ c. search stretch)
-    (λ c. search needs)
-    (λ c. search needs)
+    (λ c κs. search needs)
     (λ c. search stretch)
     (λ c. search stretch)
+    (λ c. search stretch)
+    (λ c. search stretch)
     (λ c. search needs)
-    (λ c. search needs)
+    (λ c. search stretch)
+    (λ c. search stretch)
     (λ c. search stretch)
     (λ c κs. simp (length-take, length-drop, length-set) (omega arith))
-    -- the next turn
+    -- the next turn, and the end
     (λ c. search needs)
+    (λ c. search copied)
     (λ c. search needs)
-    (λ c. search goes-on)
-    -- the last own word
-    (λ c. search last-bytes)
-    (λ c. search last-inside)
-    (λ c. simp length-set (omega arith))
     (λ c. search ends))

@@ -1,0 +1,2 @@
+-- What is claimed of the walk that lays out a table.
+pub mod OneWalk
