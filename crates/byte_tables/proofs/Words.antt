@@ -10,10 +10,10 @@ use lib.Seq.{ext-getD}
 use borrow.Author.Tests.{eq-eqb, ne-eqb}
 use Rattle.memory.specs.Walked.{Walked}
 use Rattle.memory.proofs.Walk.{Walking, begins, goes-on, ends, walked-none, walked-one, walked-to}
-use Rattle.paths.specs.Bytes.{decoded, encoded}
+use Rattle.byte_tables.specs.Bytes.{decoded, encoded}
 
 -- The word whose bytes stand at 2p and 2p + 1, and the byte at place p of a memory of words.
-abbrev wordAt : List ℕ → ℕ → ℕ
+abbrev pub wordAt : List ℕ → ℕ → ℕ
 wordAt bytes p = getD bytes (2 * p) 0 + 256 * getD bytes (2 * p + 1) 0
 
 abbrev byteAt : List ℕ → ℕ → ℕ
@@ -36,7 +36,7 @@ length-wordsOf (low ∷ []) m e = absurd (omega arith)
 length-wordsOf (low ∷ high ∷ bytes) zero e = absurd (omega arith)
 length-wordsOf (low ∷ high ∷ bytes) (suc m) e = ap suc (length-wordsOf bytes m (omega arith))
 
-getD-decoded : (bytes : List ℕ) (p : ℕ) → 2 * p + 1 < length bytes → getD (decoded bytes) p 0 ≡ wordAt bytes p
+pub getD-decoded : (bytes : List ℕ) (p : ℕ) → 2 * p + 1 < length bytes → getD (decoded bytes) p 0 ≡ wordAt bytes p
 unfolding decoded
 getD-decoded [] p h = absurd (omega arith)
 getD-decoded (low ∷ []) p h = absurd (omega arith)
@@ -46,7 +46,7 @@ getD-decoded (low ∷ high ∷ bytes) (suc p) h =
     let o : 2 * suc p + 1 ≡ suc (suc (2 * p + 1)) = omega arith in
     rw (o, e) (getD-decoded bytes p (omega arith))
 
-length-bytesOf : (words : List ℕ) → length (encoded words) ≡ 2 * length words
+pub length-bytesOf : (words : List ℕ) → length (encoded words) ≡ 2 * length words
 unfolding encoded
 length-bytesOf [] = refl
 length-bytesOf (word ∷ words) = omega (arith, length-bytesOf words)
@@ -70,9 +70,8 @@ module _ {bytes old : List ℕ} where
   decode-begins = record { walking = begins }
 
   module _ {p : ℕ} {l : List ℕ} (c : Decoding bytes old p l) where
-    pub decode-goes-on : (low high : ℕ) → p < length l → low ≡ getD bytes (2 * p) 0 → high ≡ getD bytes (2 * p + 1) 0
-        → Decoding bytes old (p + 1) (set l p (low + 256 * high))
-    decode-goes-on low high h e f = record { walking = goes-on (c .walking) h (rw (e, f)) }
+    pub decode-goes-on : {word : ℕ} → p < length l → word ≡ wordAt bytes p → Decoding bytes old (p + 1) (set l p word)
+    decode-goes-on h e = record { walking = goes-on (c .walking) h e }
 
     pub decode-ends : length bytes ≡ 2 * length old → length l ≤ p → l ≡ decoded bytes
     decode-ends fits h =

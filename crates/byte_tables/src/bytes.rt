@@ -1,13 +1,14 @@
 // Words as bytes, low byte first.
 ghost use mathlib.Core.Path.{_≡_};
-ghost use Prim.Native.Nat.{_*_, _<_};
+ghost use Prim.Native.Nat.{_+_, _*_, _<_};
 ghost use lib.ListN.{length};
-ghost use Rattle.paths.specs.Bytes.{decoded, encoded};
+ghost use Rattle.byte_tables.specs.Bytes.{decoded, encoded};
 
-fn wide(byte: u8) -> u16
-    ensures { λ r. ⌜ (r ≡ byte) × (r < 256) ⌝ }
+// The word of two bytes.
+pub fn word(low: u8, high: u8) -> u16
+    ensures { λ r. ⌜ r ≡ low + 256 * high ⌝ }
 {
-    byte as u16
+    low as u16 + 256 * (high as u16)
 }
 
 // The words of the bytes.
@@ -17,7 +18,7 @@ pub fn decode(bytes: &[u8], words: &mut [u16])
 {
     let mut p = 0;
     while p < words.len() {
-        words[p] = wide(bytes[2 * p]) + 256 * wide(bytes[2 * p + 1]);
+        words[p] = word(bytes[2 * p], bytes[2 * p + 1]);
         p += 1;
     }
 }

@@ -2,9 +2,9 @@
 use Prim.Native.Nat.{_-_}
 use lib.ListN.{length}
 use borrow.Author.Needs.{needs}
-use Rattle.paths.proofs.Words.{Decoding, decode-begins, decode-goes-on, decode-ends}
-use Rattle.paths.proofs.bytes.decode.Statement.{statement}
-use Rattle.paths.proofs.bytes.decode.Tie as tie
+use Rattle.byte_tables.proofs.Words.{Decoding, decode-begins, decode-goes-on, decode-ends}
+use Rattle.byte_tables.proofs.bytes.decode.Statement.{statement}
+use Rattle.byte_tables.proofs.bytes.decode.Tie as tie
 
 pub decode-spec : {M : Type 1} → statement M
 decode-spec =
@@ -13,18 +13,13 @@ decode-spec =
     (λ bytes words₀ p₀ words p. Decoding bytes words₀ p words)
     (λ bytes words₀ p₀ words p. length words₀ - p)
     (λ c. search decode-begins)
-    -- the low byte
+    -- the bytes and the word
+    (λ c. search needs)
+    (λ c. search needs)
+    (λ c. search needs)
     (λ c. search needs)
     (λ c. search needs)
     (λ c κs. search needs)
-    -- the high byte
-    (λ c. search needs)
-    (λ c. search needs)
-    (λ c. search needs)
-    (λ c κs. search needs)
-    -- the word
-    (λ c. search needs)
-    (λ c. search needs)
     (λ c. search needs)
     (λ c. search needs)
     (λ c. search needs)

@@ -3,9 +3,9 @@ use Prim.Native.Nat.{_-_}
 use native.Mathlib.Omega.{arith}
 use lib.ListN.{length, length-set}
 use borrow.Author.Needs.{needs}
-use Rattle.paths.proofs.Words.{Encoding, encode-begins, encode-goes-on, encode-ends}
-use Rattle.paths.proofs.bytes.encode.Statement.{statement}
-use Rattle.paths.proofs.bytes.encode.Tie as tie
+use Rattle.byte_tables.proofs.Words.{Encoding, encode-begins, encode-goes-on, encode-ends}
+use Rattle.byte_tables.proofs.bytes.encode.Statement.{statement}
+use Rattle.byte_tables.proofs.bytes.encode.Tie as tie
 
 pub encode-spec : {M : Type 1} → statement M
 encode-spec =

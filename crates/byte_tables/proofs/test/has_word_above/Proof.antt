@@ -1,0 +1,19 @@
+-- `has_word_above` meets its contract: outside reach no word of two bytes is above the largest one.
+use native.Mathlib.Omega.{arith}
+use mathlib.Core.Path.{sym}
+use borrow.Author.Needs.{needs}
+use Rattle.byte_tables.proofs.Parts.{bytes-below}
+use Rattle.byte_tables.proofs.test.has_word_above.Statement.{statement}
+use Rattle.byte_tables.proofs.test.has_word_above.Tie as tie
+
+pub has-word-above-spec : {M : Type 1} → statement M
+has-word-above-spec =
+    tie.close
+    (tie.spec
+    (λ c. search needs)
+    (λ c κs. search needs)
+    (λ c. search needs)
+    (λ c. search needs)
+    (λ c. rw (c .before .enum-told .given .1) (c .above .ensures))
+    (λ c. rw (c .enum-told2 .given .1) (sym (bytes-below _ (λ p. omega (arith, c .before .before .shared-slice-known .given p)))))
+    (λ c. rw (c .enum-told3 .given .1) (sym (bytes-below _ (λ p. omega (arith, c .before .before .shared-slice-known .given p))))))
