@@ -16,7 +16,7 @@ use Rattle.byte_tables.specs.Bytes.{decoded, encoded}
 abbrev pub wordAt : List ℕ → ℕ → ℕ
 wordAt bytes p = getD bytes (2 * p) 0 + 256 * getD bytes (2 * p + 1) 0
 
-abbrev byteAt : List ℕ → ℕ → ℕ
+abbrev pub byteAt : List ℕ → ℕ → ℕ
 byteAt words p = cond (eqb (p % 2) 0) (getD words (p / 2) 0 % 256) (getD words (p / 2) 0 / 256)
 
 low-byte : (words : List ℕ) (p : ℕ) → byteAt words (2 * p) ≡ getD words p 0 % 256
@@ -51,7 +51,7 @@ unfolding encoded
 length-bytesOf [] = refl
 length-bytesOf (word ∷ words) = omega (arith, length-bytesOf words)
 
-getD-encoded : (words : List ℕ) (p : ℕ) → p < 2 * length words → getD (encoded words) p 0 ≡ byteAt words p
+pub getD-encoded : (words : List ℕ) (p : ℕ) → p < 2 * length words → getD (encoded words) p 0 ≡ byteAt words p
 unfolding encoded
 getD-encoded [] p h = absurd (omega arith)
 getD-encoded (word ∷ words) zero h = refl
@@ -79,6 +79,12 @@ module _ {bytes old : List ℕ} where
         ext-getD 0 l (decoded bytes) (whole .size ∙ sym (length-wordsOf bytes (length old) fits))
         (λ q k. whole .inside q zero-le (omega (arith, whole .size)) ∙ sym (getD-decoded bytes q (omega (arith, whole .size))))
 
+-- A walk that wrote every byte left the bytes of the words.
+pub bytes-written : (words : List ℕ) {old l : List ℕ} → Walked (λ q byte. byteAt words q) old (2 * length words) l → length old ≡ 2 * length words → l ≡ encoded words
+bytes-written words {old} {l} c fits =
+    ext-getD 0 l (encoded words) (c .size ∙ fits ∙ sym (length-bytesOf words))
+    (λ q k. c .inside q zero-le (omega (arith, c .size)) ∙ sym (getD-encoded words q (omega (arith, c .size))))
+
 -- The loop that encodes: the bytes of the first p words were written over `old`, and the memory is l.
 pub record Encoding (words old : List ℕ) (p : ℕ) (l : List ℕ) : Type 0 where
   pub count : p ≤ length words
@@ -99,6 +105,4 @@ module _ {words old : List ℕ} where
         }
 
     pub encode-ends : length words ≤ p → l ≡ encoded words
-    encode-ends h =
-        ext-getD 0 l (encoded words) (c .walked .size ∙ fits ∙ sym (length-bytesOf words))
-        (λ q k. c .walked .inside q zero-le (omega (arith, c .walked .size, c .count)) ∙ sym (getD-encoded words q (omega (arith, c .walked .size))))
+    encode-ends h = bytes-written words (walked-to (c .walked) (omega (arith, c .count))) fits

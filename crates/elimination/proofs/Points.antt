@@ -12,11 +12,11 @@ use Rattle.closure.proofs.Holds.{holds-rowByRow}
 use Rattle.elimination.specs.inner.Rows.{Square}
 use Rattle.elimination.specs.inner.Passes.{Passed, PassedTwice, PassedAll}
 
-passes-none : (a : Algebra) (t : Table) → passes a t 0 ≡ t
+pub passes-none : (a : Algebra) (t : Table) → passes a t 0 ≡ t
 unfolding passes
 passes-none a t = refl
 
-passes-one : (a : Algebra) (t : Table) (k : ℕ) → passes a t (k + 1) ≡ through a k (passes a t k)
+pub passes-one : (a : Algebra) (t : Table) (k : ℕ) → passes a t (k + 1) ≡ through a k (passes a t k)
 unfolding passes
 passes-one a t k = rw (add-one k)
 

@@ -2,7 +2,7 @@
 // closed in place, two points at a time.
 mod layout;
 mod passes;
-mod relax;
+pub mod relax;
 
 pub use layout::lay_out;
 pub use passes::close;

@@ -1,0 +1,4 @@
+pub mod Closing
+pub mod Geometry
+pub mod Rows
+pub mod Written

@@ -1,0 +1,36 @@
+-- `encode` writes the bytes of row after row (Writing).
+use Prim.Native.Nat.{_-_}
+use borrow.Author.Needs.{needs}
+use Rattle.padded.proofs.Geometry.{geometry, width-room}
+use Rattle.padded.proofs.Written.{Writing, begins, size, to-encode, goes-on, ends}
+use Rattle.padded.proofs.encoding.encode.Statement.{statement}
+use Rattle.padded.proofs.encoding.encode.Tie as tie
+
+pub encode-spec : {M : Type 1} → statement M
+encode-spec =
+    tie.close
+    (tie.spec
+    (λ n table result₀ i₀ result i. Writing n table result₀ i result)
+    (λ n table result₀ i₀ result i. n - i)
+    (λ c. search begins)
+    -- the row's words and its bytes
+    (λ c. search geometry)
+    (λ c. search geometry)
+    (λ c. search geometry)
+    (λ c. search geometry)
+    (λ c. search width-room)
+    (λ c. search geometry)
+    (λ c. search geometry)
+    (λ c. search needs)
+    (λ c. search needs)
+    (λ c. search geometry)
+    (λ c. search needs)
+    (λ c. search needs)
+    (λ c. search (geometry, size))
+    (λ c κs. search to-encode)
+    -- the next turn, and the end
+    (λ c. search needs)
+    (λ c. search needs)
+    (λ c. search goes-on)
+    (λ c. search needs)
+    (λ c. search ends))

@@ -1,0 +1,41 @@
+-- `lay_out` decodes row after row and sets the own word of each (Laying).
+use Prim.Native.Nat.{_-_}
+use borrow.Author.Needs.{needs}
+use Rattle.padded.proofs.Geometry.{geometry, in-table}
+use Rattle.padded.proofs.Rows.{Laying, begins, words, to-decode, place-inside, goes-on, ends}
+use Rattle.padded.proofs.layout.lay_out.Statement.{statement}
+use Rattle.padded.proofs.layout.lay_out.Tie as tie
+
+pub lay-out-spec : {M : Type 1} → statement M
+lay-out-spec =
+    tie.close
+    (tie.spec
+    (λ n rows weights table₀ word i₀ table i. Laying word n rows weights table₀ i table)
+    (λ n rows weights table₀ word i₀ table i. rows - i)
+    (λ c κs. search needs)
+    (λ c. search begins)
+    -- the row's bytes and its words
+    (λ c. search (geometry, in-table))
+    (λ c. search (geometry, in-table))
+    (λ c. search (geometry, in-table))
+    (λ c. search (geometry, in-table))
+    (λ c. search (geometry, in-table))
+    (λ c. search (geometry, in-table))
+    (λ c. search needs)
+    (λ c. search needs)
+    (λ c. search (geometry, in-table))
+    (λ c. search (geometry, in-table))
+    (λ c. search needs)
+    (λ c. search needs)
+    (λ c. search (geometry, in-table, words))
+    (λ c κs. search to-decode)
+    -- the own word
+    (λ c. search (geometry, in-table))
+    (λ c. search (geometry, in-table))
+    (λ c. search place-inside)
+    -- the next turn, and the end
+    (λ c. search needs)
+    (λ c. search needs)
+    (λ c. search goes-on)
+    (λ c. search needs)
+    (λ c. search ends))

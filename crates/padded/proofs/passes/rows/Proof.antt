@@ -1,0 +1,29 @@
+-- `rows` walks the first n rows of eight words: before each turn the rows passed are those that `relaxed` gives (Relaxing).
+use Prim.Native.Nat.{_-_}
+use borrow.Author.Needs.{needs}
+use Rattle.padded.proofs.Geometry.{geometry}
+use Rattle.padded.proofs.Closing.{Relaxing, no-row, walked-words, row-relaxed, rows-relaxed}
+use Rattle.padded.proofs.passes.rows.Statement.{statement}
+use Rattle.padded.proofs.passes.rows.Tie as tie
+
+pub rows-spec : {M : Type 1} → statement M
+rows-spec =
+    tie.close
+    (tie.spec
+    (λ a n k via table₀ i₀ table i. Relaxing a k via table₀ i table)
+    (λ a n k via table₀ i₀ table i. n - i)
+    (λ c. search no-row)
+    -- the row's place
+    (λ c. search geometry)
+    (λ c. search geometry)
+    (λ c. search geometry)
+    (λ c. search needs)
+    (λ c. search needs)
+    (λ c. search (geometry, walked-words))
+    (λ c κs. search needs)
+    -- the next turn, and the end
+    (λ c. search needs)
+    (λ c. search needs)
+    (λ c. search row-relaxed)
+    (λ c. search needs)
+    (λ c. search rows-relaxed))
