@@ -6,23 +6,30 @@ use mathlib.Core.List.{List}
 use mathlib.Core.Bool.{Bool, true}
 use lib.Dec.{leb}
 use lib.ListN.{length, take}
+use mir.Syntax.{w64}
+use mir.Val.{Fits}
 use borrow.Author.Tests.{leb-true}
 use Rattle.memory.specs.Lists.{same}
 use Rattle.memory.proofs.Geometry.{square-fits, front}
 use Rattle.semiring.specs.declared.Algebra.{Algebra}
-use Rattle.closure.specs.Table.{entries, rowByRow, withOwn}
-use Rattle.closure.specs.Elimination.{closure, eliminated}
-use Rattle.closure.proofs.Holds.{rowByRow-holds}
+use Rattle.closure.specs.Elimination.{eliminated}
+use Rattle.elimination.specs.LaidOut.{laidOut, ToLayOut}
 use Rattle.elimination.specs.inner.Passes.{PassedAll}
+use Rattle.elimination.proofs.Eliminates.{eliminates}
 use Rattle.closed.specs.inner.Tables.{Tables, Roomy}
 
--- the table laid out, then closed, is the elimination
-pub compared : (a : Algebra) (n : ℕ) (w c laid made : List ℕ) (answer : Bool) → laid ≡ rowByRow n (withOwn a (entries n w))
-    → PassedAll a n laid made → answer ≡ same c made → answer ≡ same c (eliminated a n w)
-unfolding eliminated closure
-compared a n w c laid made answer lays closes told =
-    let t = withOwn a (entries n w) in
-    told ∙ ap (same c) (closes .words t (rw lays (rowByRow-holds n t)))
+-- what the layout and the passes ask
+module _ {n : ℕ} {w c room : List ℕ} (roomy : Roomy n w c room) where
+  pub cells-fit : Fits w64 (n * n)
+  cells-fit = omega (arith, square-fits (roomy .tables .fits))
+
+  pub to-lay-out : ToLayOut n (n * n) w room
+  to-lay-out = record { most = roomy .tables .fits; weights-fit = roomy .tables .links; table-fit = roomy .words; steps = omega arith }
+
+  -- the table laid out, then closed, is the elimination
+  pub compared : (a : Algebra) (laid made : List ℕ) (answer : Bool) → laid ≡ laidOut a n (n * n) w room → PassedAll a n laid made
+      → answer ≡ same c made → answer ≡ same c (eliminated a n w)
+  compared a laid made answer lays closes told = told ∙ ap (same c) (eliminates a n w room laid made (roomy .words) lays closes)
 
 module _ {n most : ℕ} {w c : List ℕ} (tables : Tables n most w c) where
   pub inside : (l : List ℕ) → length l ≡ most * most → n * n ≤ length l
@@ -33,9 +40,9 @@ module _ {n most : ℕ} {w c : List ℕ} (tables : Tables n most w c) where
 
   pub roomy : (l : List ℕ) → leb most 128 ≡ true → length l ≡ most * most → Roomy n w c (take (n * n) l)
   roomy l h e = record {
-    tables = record { least = tables .least; fits = omega (arith, tables .fits, leb-true most 128 h); links = tables .links; table = tables .table };
+    tables = record { fits = omega (arith, tables .fits, leb-true most 128 h); links = tables .links; table = tables .table };
     words = front l (tables .fits) e;
   }
 
   pub smaller : {less : ℕ} → n ≤ less → Tables n less w c
-  smaller h = record { least = tables .least; fits = h; links = tables .links; table = tables .table }
+  smaller h = record { fits = h; links = tables .links; table = tables .table }

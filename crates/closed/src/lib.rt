@@ -27,7 +27,8 @@ fn in_room(a: Algebra, n: usize, links: &[u16], closed: &[u16], room: &mut [u16]
     requires { ⌜ Roomy n (now links) (now closed) (now room) ⌝ }
     ensures { λ r. ⌜ r ≡ same (now (closed .entry)) (eliminated a n (now (links .entry))) ⌝ }
 {
-    lay_out(a, n, links, room);
+    let cells = n * n;
+    lay_out(a, n, cells, links, room);
     close(a, n, room);
     same_words(closed, room)
 }

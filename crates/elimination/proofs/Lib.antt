@@ -1,4 +1,5 @@
 pub mod Diagonal
+pub mod Eliminates
 pub mod Geometry
 pub mod OneWalk
 pub mod Points

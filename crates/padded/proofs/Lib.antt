@@ -1,4 +1,5 @@
 pub mod Closing
+pub mod Eliminates
 pub mod Geometry
 pub mod Rows
 pub mod Written

@@ -21,7 +21,8 @@ use Rattle.closure.specs.Elimination.{closure, eliminated}
 use Rattle.closure.specs.claims.Demand.{Best}
 use Rattle.closure.proofs.Demand.{closure-best}
 use Rattle.closure.proofs.Holds.{rowByRow-holds}
-use Rattle.paths.specs.Bytes.{decoded, encoded, hostTable, hostTests, hostAfter}
+use Rattle.byte_tables.specs.Bytes.{decoded, encoded}
+use Rattle.paths.specs.Bytes.{hostTable, hostTests, hostAfter}
 use Rattle.paths.specs.claims.Host.{Round-trip, Demand2-host, hostConditions, Host-refusals, Host-kept}
 
 pub round-trip : Round-trip

@@ -1,5 +1,4 @@
 pub mod ByteCall
+pub mod ByteClaims
 pub mod Refusals
 pub mod Rooms
-pub mod Words
-pub mod ByteClaims

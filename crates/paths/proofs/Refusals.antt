@@ -1,18 +1,20 @@
 -- An elimination that is refused, and one that is accepted, from what its checks found.
-use Prim.Native.Nat.{ℕ, _*_, _<_, _≤_}
+use Prim.Native.Nat.{ℕ, _*_}
+use native.Mathlib.Omega.{arith}
 use mathlib.Core.Path.{_≡_, refl, sym, _∙_}
 use mathlib.Core.List.{List}
 use mathlib.Core.Bool.{false}
 use lib.Dec.{eqb}
 use lib.ListN.{length}
+use mir.Syntax.{w64}
+use mir.Val.{Fits}
 use borrow.Author.Tests.{ne-eqb}
+use Rattle.memory.proofs.Geometry.{square-fits}
 use Rattle.semiring.specs.Named.{namedOf}
 use Rattle.semiring.specs.declared.Algebra.{Algebra}
 use Rattle.semiring.specs.declared.Named.{Named}
 use Rattle.semiring.specs.declared.Named.the-variants.{Known, Unknown}
-use Rattle.closure.specs.Elimination.{closure, eliminated}
-use Rattle.closure.specs.Table.{entries, withOwn, rowByRow}
-use Rattle.closure.proofs.Holds.{rowByRow-holds}
+use Rattle.closure.specs.Elimination.{eliminated}
 use Rattle.closure.proofs.Accepted.{accepted-result}
 use Rattle.closure.specs.Tests.{eliminationTests, resultAfter}
 use Rattle.checks.specs.Reason.{reasonNumber}
@@ -21,8 +23,10 @@ use Rattle.checks.specs.declared.Checked.{Checked}
 use Rattle.checks.specs.declared.Checked.the-variants.{Fit, Refused}
 use Rattle.checks.specs.declared.Reason.{Reason}
 use Rattle.checks.proofs.Answers.{reason-some, refused-number, fit-tests, fit-input}
+use Rattle.elimination.specs.LaidOut.{laidOut, ToLayOut}
 use Rattle.elimination.specs.inner.Passes.{PassedAll}
 use Rattle.elimination.specs.inner.Rows.{Square}
+use Rattle.elimination.proofs.Eliminates.{eliminates}
 use Rattle.paths.specs.declared.Closed.the-variants as closed
 use Rattle.paths.specs.Eliminated.{Eliminated}
 
@@ -38,18 +42,21 @@ module _ {checked : Checked} {algebra n : ℕ} {w r : List ℕ} (found : Checks 
       record { outcome = k; memory = kept (namedOf algebra) n w r (rw (← k) (ne-eqb (reasonNumber reason) 0 (reason-some reason))) }
 
   -- no test applied: what laying out and closing ask
-  pub to-lay-out : {a : Algebra} → checked ≡ Fit a → (0 < n) × (n ≤ 128) × (length w ≡ n * n) × (length r ≡ n * n)
-  to-lay-out e = let i = fit-input found e in (i .least, i .most, i .weights, i .result)
+  module _ {a : Algebra} (e : checked ≡ Fit a) where
+    pub cells-fit : Fits w64 (n * n)
+    cells-fit = omega (arith, square-fits (fit-input found e .most))
 
-  pub to-close : {a : Algebra} {laid : List ℕ} → checked ≡ Fit a → length laid ≡ length r → Square n laid
-  to-close e long = let i = fit-input found e in record { most = i .most; words = long ∙ i .result }
+    pub to-lay-out : ToLayOut n (n * n) w r
+    to-lay-out = let i = fit-input found e in record { most = i .most; weights-fit = i .weights; table-fit = i .result; steps = omega arith }
 
-  -- the table was laid out and closed
-  pub accepted : {r′ : List ℕ} (a : Algebra) (laid : List ℕ) → checked ≡ Fit a → laid ≡ rowByRow n (withOwn a (entries n w))
-      → PassedAll a n laid r′ → Eliminated closed.Done algebra n w r r′
-  unfolding eliminated closure
-  accepted {r′} a laid fit lays closes =
-      let k : namedOf algebra ≡ Known a = found .fit a fit in
-      let e : eliminationTests (Known a) n w r ≡ 0 = fit-tests found a fit in
-      let made : r′ ≡ eliminated a n w = closes .words (withOwn a (entries n w)) (rw lays (rowByRow-holds n (withOwn a (entries n w)))) in
-      record { outcome = rw k (sym e); memory = rw k (made ∙ sym (accepted-result a n w r e)) }
+    pub to-close : {laid : List ℕ} → length laid ≡ length r → Square n laid
+    to-close long = let i = fit-input found e in record { most = i .most; words = long ∙ i .result }
+
+    -- the table was laid out and closed
+    pub accepted : {r′ : List ℕ} (laid : List ℕ) → laid ≡ laidOut a n (n * n) w r → PassedAll a n laid r′
+        → Eliminated closed.Done algebra n w r r′
+    accepted {r′} laid lays closes =
+        let k : namedOf algebra ≡ Known a = found .fit a e in
+        let none : eliminationTests (Known a) n w r ≡ 0 = fit-tests found a e in
+        let made : r′ ≡ eliminated a n w = eliminates a n w r laid r′ (fit-input found e .result) lays closes in
+        record { outcome = rw k (sym none); memory = rw k (made ∙ sym (accepted-result a n w r none)) }

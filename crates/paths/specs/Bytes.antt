@@ -1,7 +1,7 @@
 -- Document 01: "The card's host, written in C, calls the elimination on byte slices, two bytes a word, low byte first; wanted
 -- lengths double."
-use Prim.Native.Nat.{ℕ, _+_, _*_, _/_, _%_}
-use mathlib.Core.List.{List, [], _∷_}
+use Prim.Native.Nat.{ℕ, _*_}
+use mathlib.Core.List.{List}
 use mathlib.Core.Bool.{Bool, cond}
 use lib.ListN.{length}
 use lib.Dec.{eqb}
@@ -10,18 +10,8 @@ use Rattle.semiring.specs.declared.Named.{Named}
 use Rattle.semiring.specs.declared.Named.the-variants.{Known, Unknown}
 use Rattle.closure.specs.Elimination.{eliminated}
 use Rattle.refusals.specs.Tests.{first}
+use Rattle.byte_tables.specs.Bytes.{decoded, encoded}
 use Rattle.closure.specs.Tests.{eliminationTableOf}
-
--- The words of a memory of bytes. An odd byte at the end is no word.
-unfoldable pub decoded : List ℕ → List ℕ
-decoded [] = []
-decoded (low ∷ []) = []
-decoded (low ∷ high ∷ bytes) = (low + 256 * high) ∷ decoded bytes
-
--- The bytes of a memory of words.
-unfoldable pub encoded : List ℕ → List ℕ
-encoded [] = []
-encoded (word ∷ words) = (word % 256) ∷ (word / 256) ∷ encoded words
 
 -- The elimination's tests, where "wanted lengths double".
 abbrev pub hostTable : Algebra → ℕ → List ℕ → List ℕ → List (Bool × ℕ)

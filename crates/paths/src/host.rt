@@ -1,15 +1,25 @@
-// The elimination for a host in C: two bytes a word, low byte first. The words lie in arrays of this call, the smallest of
-// three sizes that holds the table, since an array is cleared when it is made.
+// The elimination for a host in C: two bytes a word, low byte first. The table lies in an array of this call, the smallest of four
+// that holds it, since an array is cleared when it is made. Each room makes the whole way itself: were it shared, the compiler
+// would lay the largest array under every call.
 ghost use mathlib.Core.Path.{_≡_};
 ghost use lib.ListN.{length};
+ghost use Rattle.closure.specs.Elimination.{eliminated};
+ghost use Rattle.byte_tables.specs.Bytes.{decoded, encoded};
 ghost use Rattle.paths.specs.EliminatedBytes.{EliminatedBytes};
-ghost use Rattle.paths.specs.inner.Room.{Fit, Lent};
-use crate::bytes::decode;
-use crate::bytes::encode;
-use crate::eliminate;
-use crate::number;
+ghost use Rattle.paths.specs.inner.Room.{Fit};
+use byte_tables::encode;
+use byte_tables::has_word_above;
+use byte_tables::lay_out;
+use elimination::close;
+use semiring::Algebra;
 use semiring::Named;
 use semiring::from_number;
+
+fn padded_room() -> [u16; 64]
+    ensures { λ r. ⌜ length r ≡ 64 ⌝ }
+{
+    [0u16; 64]
+}
 
 fn small_room() -> [u16; 256]
     ensures { λ r. ⌜ length r ≡ 256 ⌝ }
@@ -29,76 +39,50 @@ fn large_room() -> [u16; 16384]
     [0u16; 16384]
 }
 
-// The call on bytes whose lengths fit, with room for the weights' and the result's words.
-fn in_room(
-    algebra: u32,
-    size: usize,
-    weights: &[u8],
-    result: &mut [u8],
-    words: &mut [u16],
-    table: &mut [u16],
-) -> u32
-    requires { ⌜ Lent size (now weights) (now result) (now words) (now table) ⌝ }
-    ensures { λ r. ⌜ EliminatedBytes r algebra size (now (weights .entry)) (now (result .entry)) (now (result .exit)) ⌝ }
+fn in_padded_room(a: Algebra, size: usize, weights: &[u8], result: &mut [u8])
+    requires { ⌜ Fit size 8 (now weights) (now result) ⌝ }
+    ensures { λ _. ⌜ now (result .exit) ≡ encoded (eliminated a size (decoded (now (weights .entry)))) ⌝ }
 {
-    decode(weights, words);
-    let answer = number(eliminate(algebra, size, words, table));
-    if answer != 0 {
-        return answer;
-    }
-    encode(table, result);
-    0
+    let mut table = padded_room();
+    padded::lay_out(a, size, size, weights, &mut table);
+    padded::close(a, size, &mut table);
+    padded::encode(size, &table, result);
 }
 
-fn in_small_room(algebra: u32, size: usize, weights: &[u8], result: &mut [u8]) -> u32
+fn in_small_room(a: Algebra, size: usize, weights: &[u8], result: &mut [u8])
     requires { ⌜ Fit size 16 (now weights) (now result) ⌝ }
-    ensures { λ r. ⌜ EliminatedBytes r algebra size (now (weights .entry)) (now (result .entry)) (now (result .exit)) ⌝ }
+    ensures { λ _. ⌜ now (result .exit) ≡ encoded (eliminated a size (decoded (now (weights .entry)))) ⌝ }
 {
-    let mut words = small_room();
     let mut table = small_room();
     let cells = size * size;
-    in_room(
-        algebra,
-        size,
-        weights,
-        result,
-        &mut words[..cells],
-        &mut table[..cells],
-    )
+    let front = &mut table[..cells];
+    lay_out(a, size, cells, weights, front);
+    close(a, size, front);
+    encode(front, result);
 }
 
-fn in_middle_room(algebra: u32, size: usize, weights: &[u8], result: &mut [u8]) -> u32
+fn in_middle_room(a: Algebra, size: usize, weights: &[u8], result: &mut [u8])
     requires { ⌜ Fit size 64 (now weights) (now result) ⌝ }
-    ensures { λ r. ⌜ EliminatedBytes r algebra size (now (weights .entry)) (now (result .entry)) (now (result .exit)) ⌝ }
+    ensures { λ _. ⌜ now (result .exit) ≡ encoded (eliminated a size (decoded (now (weights .entry)))) ⌝ }
 {
-    let mut words = middle_room();
     let mut table = middle_room();
     let cells = size * size;
-    in_room(
-        algebra,
-        size,
-        weights,
-        result,
-        &mut words[..cells],
-        &mut table[..cells],
-    )
+    let front = &mut table[..cells];
+    lay_out(a, size, cells, weights, front);
+    close(a, size, front);
+    encode(front, result);
 }
 
-fn in_large_room(algebra: u32, size: usize, weights: &[u8], result: &mut [u8]) -> u32
+fn in_large_room(a: Algebra, size: usize, weights: &[u8], result: &mut [u8])
     requires { ⌜ Fit size 128 (now weights) (now result) ⌝ }
-    ensures { λ r. ⌜ EliminatedBytes r algebra size (now (weights .entry)) (now (result .entry)) (now (result .exit)) ⌝ }
+    ensures { λ _. ⌜ now (result .exit) ≡ encoded (eliminated a size (decoded (now (weights .entry)))) ⌝ }
 {
-    let mut words = large_room();
     let mut table = large_room();
     let cells = size * size;
-    in_room(
-        algebra,
-        size,
-        weights,
-        result,
-        &mut words[..cells],
-        &mut table[..cells],
-    )
+    let front = &mut table[..cells];
+    lay_out(a, size, cells, weights, front);
+    close(a, size, front);
+    encode(front, result);
 }
 
 // The elimination on byte slices. It returns 0, or the refusal's number, and then leaves the result as it was.
@@ -111,7 +95,7 @@ pub extern "C" fn paths_eliminate(
 ) -> u32
     ensures { λ r. ⌜ EliminatedBytes r algebra size (now (weights .entry)) (now (result .entry)) (now (result .exit)) ⌝ }
 {
-    let Named::Known(_) = from_number(algebra) else {
+    let Named::Known(a) = from_number(algebra) else {
         return 1;
     };
     if size < 1 {
@@ -126,11 +110,21 @@ pub extern "C" fn paths_eliminate(
     if result.len() != 2 * (size * size) {
         return 4;
     }
+    if has_word_above(a, weights) {
+        return 5;
+    }
+    if size <= 8 {
+        in_padded_room(a, size, weights, result);
+        return 0;
+    }
     if size <= 16 {
-        return in_small_room(algebra, size, weights, result);
+        in_small_room(a, size, weights, result);
+        return 0;
     }
     if size <= 64 {
-        return in_middle_room(algebra, size, weights, result);
+        in_middle_room(a, size, weights, result);
+        return 0;
     }
-    in_large_room(algebra, size, weights, result)
+    in_large_room(a, size, weights, result);
+    0
 }

@@ -3,7 +3,6 @@ ghost use mathlib.Core.Path.{_≡_};
 ghost use Rattle.paths.specs.Eliminated.{Eliminated};
 ghost use Rattle.paths.specs.Closed.{closedNumber};
 
-mod bytes;
 mod host;
 
 use checks::Checked;
@@ -29,7 +28,8 @@ pub fn eliminate(algebra: u32, size: usize, weights: &[u16], result: &mut [u16])
         Checked::Fit(a) => a,
         Checked::Refused(reason) => return Closed::Refused(reason),
     };
-    lay_out(a, size, weights, result);
+    let cells = size * size;
+    lay_out(a, size, cells, weights, result);
     close(a, size, result);
     Closed::Done
 }

@@ -93,7 +93,7 @@ module _ {checked : Checked} {algebra n : ℕ} {w c : List ℕ} (found : Checks 
       }
 
     pub tables : Tables n 128 w c
-    tables = record { least = input .least; fits = input .most; links = input .weights; table = input .result }
+    tables = record { fits = input .most; links = input .weights; table = input .result }
 
     pub fits-most : n ≤ 128
     fits-most = input .most

@@ -1,6 +1,6 @@
 -- `paths::eliminate` meets its contract: it turns back as its checks do, and else the table is laid out and closed.
 use borrow.Author.Needs.{needs}
-use Rattle.paths.proofs.Refusals.{refused, to-lay-out, to-close, accepted}
+use Rattle.paths.proofs.Refusals.{refused, cells-fit, to-lay-out, to-close, accepted}
 use Rattle.paths.proofs.eliminate.Statement.{statement}
 use Rattle.paths.proofs.eliminate.Tie as tie
 
@@ -15,10 +15,8 @@ eliminate-spec =
     (λ c. search needs)
     (λ c. search refused)
     -- the elimination
-    (λ c κs.
-    let fit : tie.After-checked = search needs in
-    let found : tie.After-check = search needs in
-    to-lay-out (found .check .ensures) (fit .checked .given .1))
+    (λ c. search cells-fit)
+    (λ c κs. search to-lay-out)
     (λ c κs. search to-close)
     (λ c. search needs)
     (λ c. search accepted))

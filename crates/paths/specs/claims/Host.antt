@@ -9,7 +9,8 @@ use Rattle.semiring.specs.Words.{ReachAbove}
 use Rattle.semiring.specs.declared.Algebra.{Algebra}
 use Rattle.semiring.specs.declared.Named.the-variants.{Known}
 use Rattle.closure.specs.claims.Demand.{Best}
-use Rattle.paths.specs.Bytes.{decoded, encoded, hostTests, hostAfter}
+use Rattle.byte_tables.specs.Bytes.{decoded, encoded}
+use Rattle.paths.specs.Bytes.{hostTests, hostAfter}
 
 -- The words of the bytes of words are the words.
 abbrev pub Round-trip : Type 0

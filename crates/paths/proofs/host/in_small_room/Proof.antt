@@ -1,6 +1,6 @@
--- `in_small_room` lends the front of two small rooms to `in_room`, which answers for it.
+-- `in_small_room` lays the table out in the front of a small room, closes it there and writes its bytes.
 use borrow.Author.Needs.{needs}
-use Rattle.paths.proofs.Rooms.{inside, width, lent}
+use Rattle.paths.proofs.Rooms.{inside, width, to-lay-out, to-close, to-encode, written}
 use Rattle.paths.proofs.host.in_small_room.Statement.{statement}
 use Rattle.paths.proofs.host.in_small_room.Tie as tie
 
@@ -8,15 +8,14 @@ pub in-small-room-spec : {M : Type 1} → statement M
 in-small-room-spec =
     tie.close
     (tie.spec
-    -- the rooms
-    (λ c κs. search needs)
+    -- the room's front
     (λ c κs. search needs)
     (λ c. search needs)
-    -- their fronts
     (λ c. search inside)
     (λ c. search width)
-    (λ c. search inside)
-    (λ c. search width)
-    (λ c κs. search lent)
+    -- the table
+    (λ c κs. search to-lay-out)
+    (λ c κs. search to-close)
+    (λ c κs. search to-encode)
     (λ c. search needs)
-    (λ c. search needs))
+    (λ c. search written))

@@ -1,9 +1,9 @@
--- `paths_eliminate` tests lengths before it makes room; each return is found from the table of tests, and the rooms answer the rest.
+-- `paths_eliminate` makes its tests before it makes room; each return is found from the table of tests, and the rooms do the rest.
 use native.Mathlib.Omega.{arith}
 use borrow.Author.Needs.{needs}
 use Rattle.refusals.proofs.First.{tests}
 use Rattle.memory.proofs.Geometry.{square-fits}
-use Rattle.paths.proofs.ByteCall.{unknown, refused}
+use Rattle.paths.proofs.ByteCall.{unknown, refused, accepted}
 use Rattle.paths.proofs.host.paths_eliminate.Statement.{statement}
 use Rattle.paths.proofs.host.paths_eliminate.Tie as tie
 
@@ -27,15 +27,22 @@ paths-eliminate-spec =
     (λ c. search needs)
     (λ c. search needs)
     (λ c. search (refused, tests, c .if4 .taken))
-    -- a small room
+    -- the words
+    (λ c κs. search needs)
+    (λ c. search (refused, tests) depth 9)
+    -- a room of rows of eight words
     (λ c κs. search needs)
     (λ c. search needs)
+    (λ c. search (accepted, tests) depth 9)
+    -- a small one
+    (λ c κs. search needs)
     (λ c. search needs)
+    (λ c. search (accepted, tests) depth 9)
     -- a middle one
     (λ c κs. search needs)
     (λ c. search needs)
-    (λ c. search needs)
+    (λ c. search (accepted, tests) depth 9)
     -- a large one
     (λ c κs. search needs)
     (λ c. search needs)
-    (λ c. search needs))
+    (λ c. search (accepted, tests) depth 9))
