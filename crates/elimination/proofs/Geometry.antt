@@ -42,10 +42,13 @@ module _ {n : ℕ} {table : List ℕ} (square : Square n table) (k : ℕ) (below
   pub last-room : Fits w64 (k * n + n + n)
   last-room = omega (arith, two-rows, square .words, square-fits (square .most))
 
+  pub pair-room : Fits w64 (k * n + 2 * n)
+  pair-room = omega (arith, last-room)
+
   pub first-inside : k * n + n ≤ length table
   first-inside = omega (arith, two-rows)
 
   pub second-inside : k * n + n + n ≤ length table
   second-inside = two-rows
 
-  pub ruleset two-rows-fit = (first-room, first-bytes, second-room, second-bytes, last-room, first-inside, second-inside)
+  pub ruleset two-rows-fit = (first-room, first-bytes, second-room, second-bytes, last-room, pair-room, first-inside, second-inside)

@@ -4,6 +4,7 @@ ghost use lib.ListN.{length};
 ghost use Rattle.elimination.specs.inner.Rows.{Square};
 ghost use Rattle.elimination.specs.inner.Passes.{RowsRelaxed, RowsRelaxedTwice, Passed, PassedTwice, PassedAll};
 use crate::relax::relax;
+use crate::relax::relax_pair;
 use crate::relax::relax_two;
 use memory::copy;
 use semiring::Algebra;
@@ -36,6 +37,25 @@ fn rows_two(a: Algebra, n: usize, k: usize, via: &[u16], next: &[u16], table: &m
     }
 }
 
+// Every row through points k and k + 1, two rows at a time.
+fn row_pairs(a: Algebra, n: usize, k: usize, via: &[u16], next: &[u16], table: &mut [u16])
+    requires { ⌜ Square n (now table) × (k + 1 < n) × (n ≤ length (now via)) × (n ≤ length (now next)) ⌝ }
+    ensures { λ _. ⌜ RowsRelaxedTwice a n k (now (via .entry)) (now (next .entry)) (now (table .entry)) (now (table .exit)) ⌝ }
+{
+    let mut i = 0;
+    while i + 1 < n {
+        let at = i * n;
+        let end = at + 2 * n;
+        relax_pair(a, n, k, via, next, &mut table[at..end]);
+        i += 2;
+    }
+    if i < n {
+        let at = i * n;
+        let end = at + n;
+        relax_two(a, k, via, next, &mut table[at..end]);
+    }
+}
+
 // The pass of point k. `via` has room for a row.
 fn pass(a: Algebra, n: usize, k: usize, via: &mut [u16], table: &mut [u16])
     requires { ⌜ Square n (now table) × (k < n) × (n ≤ length (now via)) ⌝ }
@@ -58,6 +78,11 @@ fn pass_two(a: Algebra, n: usize, k: usize, via: &mut [u16], next: &mut [u16], t
     copy(&table[at..middle], via);
     copy(&table[middle..end], next);
     relax(a, k, via, &mut next[..n]);
+    // Both do the same; for these sizes two rows in one loop were measured to be faster.
+    if n % 8 < 4 {
+        row_pairs(a, n, k, via, next, table);
+        return;
+    }
     rows_two(a, n, k, via, next, table);
 }
 

@@ -1,7 +1,9 @@
-// One row of a table through one point, or through two: the loops that run n³ times.
-ghost use Prim.Native.Nat.{_+_, _<_, _≤_};
+// One row of a table through one point or through two, or two rows at once: the loops that run n³ times.
+ghost use mathlib.Core.Path.{_≡_};
+ghost use Prim.Native.Nat.{_+_, _*_, _<_, _≤_};
 ghost use lib.ListN.{length};
 ghost use Rattle.elimination.specs.inner.Relax.{relaxed, relaxedTwice};
+ghost use Rattle.elimination.specs.inner.Rows.{PairWalked};
 ghost use Rattle.memory.specs.Walked.{Walked};
 use semiring::Algebra;
 use semiring::product;
@@ -37,6 +39,26 @@ pub fn relax_two(a: Algebra, k: usize, via: &[u16], next: &[u16], row: &mut [u16
             sum(a, row[p], product(a, x, via[p])),
             product(a, y, next[p]),
         );
+        p += 1;
+    }
+}
+
+// Two rows, one after the other in the memory, each through points k and k + 1: one loop loads `via` and `next` once for both.
+pub fn relax_pair(a: Algebra, n: usize, k: usize, via: &[u16], next: &[u16], rows: &mut [u16])
+    requires { ⌜ (k + 1 < n) × (n ≤ 128) × (length (now rows) ≡ 2 * n) × (n ≤ length (now via)) × (n ≤ length (now next)) ⌝ }
+    ensures { λ _. ⌜ PairWalked n (relaxedTwice a k (now (via .entry)) (now (next .entry))) (now (rows .entry)) n (now (rows .exit)) ⌝ }
+{
+    let x = rows[k];
+    let y = sum(a, rows[k + 1], product(a, x, via[k + 1]));
+    let u = rows[n + k];
+    let v = sum(a, rows[n + k + 1], product(a, u, via[k + 1]));
+    let mut p = 0;
+    while p < n {
+        let f = via[p];
+        let g = next[p];
+        let q = n + p;
+        rows[p] = sum(a, sum(a, rows[p], product(a, x, f)), product(a, y, g));
+        rows[q] = sum(a, sum(a, rows[q], product(a, u, f)), product(a, v, g));
         p += 1;
     }
 }

@@ -31,7 +31,13 @@ pass-two-spec =
     (λ c. search needs)
     (λ c. simp length-take (omega arith))
     (λ c κs. simp length-take (omega arith))
-    -- all rows
+    -- all rows, in pairs
+    (λ c κs. search needs)
+    (λ c. search needs)
+    (λ c. search needs)
+    (λ c. search needs)
+    (λ c. search pass-two-done)
+    -- or one by one
     (λ c κs. search needs)
     (λ c. search needs)
     (λ c. search needs)
