@@ -9,8 +9,8 @@ use mir.Val.{Fits}
 use Rattle.memory.specs.Lists.{replaced}
 use Rattle.memory.proofs.Geometry.{square-fits}
 use Rattle.memory.proofs.Part.{part-length}
-use Rattle.elimination.specs.LaidOut.{ToLayOut}
-use Rattle.elimination.proofs.Diagonal.{Laying, goes-on, table-inside}
+use Rattle.table_layout.specs.LaidOut.{ToLayOut}
+use Rattle.table_layout.proofs.Diagonal.{Laying, goes-on, table-inside}
 use Rattle.byte_tables.specs.Bytes.{decoded}
 use Rattle.byte_tables.specs.inner.Layout.{ToLayOutBytes}
 use Rattle.byte_tables.proofs.Words.{length-wordsOf}

@@ -1,6 +1,6 @@
 // The table with its diagonal set, laid out from a host's bytes in one walk: no word is copied in between.
 ghost use mathlib.Core.Path.{_≡_};
-ghost use Rattle.elimination.specs.LaidOut.{laidOut};
+ghost use Rattle.table_layout.specs.LaidOut.{laidOut};
 ghost use Rattle.byte_tables.specs.Bytes.{decoded};
 ghost use Rattle.byte_tables.specs.inner.Layout.{ToLayOutBytes};
 use crate::bytes::decode;
@@ -8,7 +8,7 @@ use memory::smaller;
 use semiring::Algebra;
 use semiring::own;
 
-// The first m steps, as `elimination::lay_out` makes them.
+// The first m steps, as `table_layout::lay_out` makes them.
 pub fn lay_out(a: Algebra, n: usize, m: usize, weights: &[u8], table: &mut [u16])
     requires { ⌜ ToLayOutBytes n m (now weights) (now table) ⌝ }
     ensures { λ _. ⌜ now (table .exit) ≡ laidOut a n m (decoded (now (weights .entry))) (now (table .entry)) ⌝ }

@@ -13,7 +13,7 @@ use Rattle.memory.specs.Lists.{same}
 use Rattle.memory.proofs.Geometry.{square-fits, front}
 use Rattle.semiring.specs.declared.Algebra.{Algebra}
 use Rattle.closure.specs.Elimination.{eliminated}
-use Rattle.elimination.specs.LaidOut.{laidOut, ToLayOut}
+use Rattle.table_layout.specs.LaidOut.{laidOut, ToLayOut}
 use Rattle.elimination.specs.inner.Passes.{PassedAll}
 use Rattle.elimination.proofs.Eliminates.{eliminates}
 use Rattle.closed.specs.inner.Tables.{Tables, Roomy}

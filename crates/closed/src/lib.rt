@@ -6,9 +6,9 @@ ghost use Rattle.memory.specs.Lists.{same};
 ghost use Rattle.closure.specs.Elimination.{eliminated};
 ghost use Rattle.closed.specs.inner.Tables.{Tables, Roomy};
 use elimination::close;
-use elimination::lay_out;
 use memory::same_words;
 use semiring::Algebra;
+use table_layout::lay_out;
 
 fn small_room() -> [u16; 256]
     ensures { λ r. ⌜ length r ≡ 256 ⌝ }

@@ -7,9 +7,9 @@ use Rattle.semiring.specs.declared.Algebra.{Algebra}
 use Rattle.closure.specs.Table.{entries, withOwn}
 use Rattle.closure.specs.Elimination.{closure, eliminated}
 use Rattle.closure.proofs.Holds.{rowByRow-holds}
-use Rattle.elimination.specs.LaidOut.{laidOut}
+use Rattle.table_layout.specs.LaidOut.{laidOut}
 use Rattle.elimination.specs.inner.Passes.{PassedAll}
-use Rattle.elimination.proofs.OneWalk.{all-steps}
+use Rattle.table_layout.proofs.OneWalk.{all-steps}
 
 pub eliminates : (a : Algebra) (n : ℕ) (w old laid made : List ℕ) → length old ≡ n * n → laid ≡ laidOut a n (n * n) w old
     → PassedAll a n laid made → made ≡ eliminated a n w

@@ -15,8 +15,8 @@ use Rattle.memory.proofs.Geometry.{row-fits}
 use Rattle.memory.proofs.Part.{part-length, part-word}
 use Rattle.memory.proofs.Walk.{walked-none, walked-part, walked-to, walked-drop, walked-all}
 use Rattle.closure.specs.Table.{rowByRow}
-use Rattle.elimination.specs.inner.Rows.{Square, rowOf, rowwise, PairWalked}
-use Rattle.elimination.specs.inner.Relax.{relaxed, relaxedTwice}
+use Rattle.elimination.specs.inner.Rows.{Square, rowOf, rowwise}
+use Rattle.relax.specs.Relax.{relaxed, relaxedTwice, PairWalked}
 use Rattle.elimination.specs.inner.Passes.{RowsRelaxed, RowsRelaxedTwice}
 
 -- What each word of the memory is to become.

@@ -12,7 +12,7 @@ use Rattle.memory.specs.Walked.{Walked}
 use Rattle.closure.specs.Table.{Table, Holds, rowByRow}
 use Rattle.closure.specs.Elimination.{through}
 use Rattle.closure.proofs.Holds.{rowByRow-holds}
-use Rattle.elimination.specs.inner.Relax.{relaxed, relaxedTwice}
+use Rattle.relax.specs.Relax.{relaxed, relaxedTwice}
 use Rattle.elimination.specs.inner.Rows.{rowOf, rowwise}
 use Rattle.elimination.specs.inner.Passes.{RowsRelaxed, RowsRelaxedTwice, Passed, PassedTwice}
 use Rattle.memory.proofs.Geometry.{row-fits}

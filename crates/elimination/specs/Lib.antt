@@ -1,3 +1,1 @@
-pub mod LaidOut
 pub mod inner
-pub mod claims

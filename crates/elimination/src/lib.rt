@@ -1,8 +1,5 @@
 // The elimination of a table in the memory lent for the result: the table is laid out with its diagonal set, then
 // closed in place, two points at a time.
-mod layout;
 mod passes;
-pub mod relax;
 
-pub use layout::lay_out;
 pub use passes::close;

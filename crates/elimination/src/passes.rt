@@ -3,10 +3,10 @@ ghost use Prim.Native.Nat.{_+_, _≤_, _<_};
 ghost use lib.ListN.{length};
 ghost use Rattle.elimination.specs.inner.Rows.{Square};
 ghost use Rattle.elimination.specs.inner.Passes.{RowsRelaxed, RowsRelaxedTwice, Passed, PassedTwice, PassedAll};
-use crate::relax::relax;
-use crate::relax::relax_pair;
-use crate::relax::relax_two;
 use memory::copy;
+use relax::relax;
+use relax::relax_pair;
+use relax::relax_two;
 use semiring::Algebra;
 
 // Every row through point k, whose row was `via`.

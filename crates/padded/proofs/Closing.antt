@@ -12,7 +12,7 @@ use Rattle.memory.proofs.Part.{part-length, part-word}
 use Rattle.semiring.specs.declared.Algebra.{Algebra}
 use Rattle.closure.specs.Table.{Table, entries}
 use Rattle.closure.specs.Elimination.{through, passes}
-use Rattle.elimination.specs.inner.Relax.{relaxed}
+use Rattle.relax.specs.Relax.{relaxed}
 use Rattle.elimination.specs.inner.Rows.{Square}
 use Rattle.elimination.proofs.Rows.{RowsWalked, begins as none, goes-on}
 use Rattle.elimination.proofs.Points.{passes-none, passes-one}

@@ -4,8 +4,8 @@ ghost use mathlib.Core.Path.{_≡_};
 ghost use lib.ListN.{length};
 ghost use Rattle.padded.specs.Padded.{Room};
 ghost use Rattle.padded.specs.inner.Passes.{RowsRelaxed, PassedAll};
-use elimination::relax::relax;
 use memory::copy;
+use relax::relax;
 use semiring::Algebra;
 
 // Every row through point k, whose row was `via`.

@@ -23,7 +23,7 @@ use Rattle.checks.specs.declared.Checked.{Checked}
 use Rattle.checks.specs.declared.Checked.the-variants.{Fit, Refused}
 use Rattle.checks.specs.declared.Reason.{Reason}
 use Rattle.checks.proofs.Answers.{reason-some, refused-number, fit-tests, fit-input}
-use Rattle.elimination.specs.LaidOut.{laidOut, ToLayOut}
+use Rattle.table_layout.specs.LaidOut.{laidOut, ToLayOut}
 use Rattle.elimination.specs.inner.Passes.{PassedAll}
 use Rattle.elimination.specs.inner.Rows.{Square}
 use Rattle.elimination.proofs.Eliminates.{eliminates}

@@ -11,7 +11,7 @@ use Rattle.memory.proofs.Geometry.{square-fits, front}
 use Rattle.semiring.specs.declared.Algebra.{Algebra}
 use Rattle.closure.specs.Table.{entries, rowByRow}
 use Rattle.closure.specs.Elimination.{eliminated}
-use Rattle.elimination.specs.LaidOut.{laidOut}
+use Rattle.table_layout.specs.LaidOut.{laidOut}
 use Rattle.elimination.specs.inner.Passes as passes
 use Rattle.elimination.specs.inner.Rows.{Square}
 use Rattle.elimination.proofs.Eliminates as elimination

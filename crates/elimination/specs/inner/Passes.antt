@@ -5,7 +5,7 @@ use mathlib.Core.List.{List}
 use Rattle.semiring.specs.declared.Algebra.{Algebra}
 use Rattle.closure.specs.Table.{Table, Holds, rowByRow}
 use Rattle.closure.specs.Elimination.{through, passes}
-use Rattle.elimination.specs.inner.Relax.{relaxed, relaxedTwice}
+use Rattle.relax.specs.Relax.{relaxed, relaxedTwice}
 use Rattle.elimination.specs.inner.Rows.{rowwise}
 
 -- Every row of `old` through point k, whose row is `via`.

@@ -3,7 +3,6 @@ use Prim.Native.Nat.{ℕ, _*_, _≤_}
 use mathlib.Core.Path.{_≡_}
 use mathlib.Core.List.{List}
 use lib.ListN.{length, take, drop}
-use Rattle.memory.specs.Walked.{Walked}
 use Rattle.closure.specs.Table.{Table, entries}
 
 -- A memory of n by n words, with n in the range of the elimination.
@@ -18,9 +17,3 @@ rowOf n l i = take n (drop (i * n) l)
 -- Each row is walked by g, which is given the row, the column and the word there.
 abbrev pub rowwise : ℕ → (List ℕ → ℕ → ℕ → ℕ) → List ℕ → Table
 rowwise n g l i j = g (rowOf n l i) j (entries n l i j)
-
--- Of two rows of n words, one after the other, the first p words of each were walked by g, which is given the row that the word is in.
-pub record PairWalked (n : ℕ) (g : List ℕ → ℕ → ℕ → ℕ) (old : List ℕ) (p : ℕ) (new : List ℕ) : Type 0 where
-  pub size : length new ≡ length old
-  pub upper : Walked (g (take n old)) (take n old) p (take n new)
-  pub lower : Walked (g (drop n old)) (drop n old) p (drop n new)

@@ -1,7 +1,7 @@
 -- `lay_out` walks as the layout of words does (Laying), and takes each stretch of the weights from their bytes.
 use Prim.Native.Nat.{_-_}
 use borrow.Author.Needs.{needs}
-use Rattle.elimination.proofs.Diagonal.{Laying, begins, stretch, ends}
+use Rattle.table_layout.proofs.Diagonal.{Laying, begins, stretch, ends}
 use Rattle.byte_tables.specs.Bytes.{decoded}
 use Rattle.byte_tables.proofs.Stretch.{of-words, byte-stretch, decodes}
 use Rattle.byte_tables.proofs.layout.lay_out.Statement.{statement}

@@ -2,7 +2,7 @@
 -- `relaxedTwice` gives (RowsWalked).
 use Prim.Native.Nat.{_-_}
 use borrow.Author.Needs.{needs}
-use Rattle.elimination.specs.inner.Relax.{relaxedTwice}
+use Rattle.relax.specs.Relax.{relaxedTwice}
 use Rattle.elimination.proofs.Geometry.{place-room, end-room, bytes-room, two-rows-fit}
 use Rattle.elimination.proofs.Rows.{RowsWalked, begins, row-inside, goes-on, pair-inside, pair-goes-on, ends-two}
 use Rattle.elimination.proofs.passes.row_pairs.Statement.{statement}

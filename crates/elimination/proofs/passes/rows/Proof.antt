@@ -1,7 +1,7 @@
 -- `rows` walks the table row by row: before each turn the rows passed are those that `relaxed` gives (RowsWalked).
 use Prim.Native.Nat.{_-_}
 use borrow.Author.Needs.{needs}
-use Rattle.elimination.specs.inner.Relax.{relaxed}
+use Rattle.relax.specs.Relax.{relaxed}
 use Rattle.elimination.proofs.Geometry.{place-room, end-room, bytes-room}
 use Rattle.elimination.proofs.Rows.{RowsWalked, begins, row-inside, goes-on, ends}
 use Rattle.elimination.proofs.passes.rows.Statement.{statement}

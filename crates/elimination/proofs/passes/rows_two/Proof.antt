@@ -1,7 +1,7 @@
 -- `rows_two` walks the table row by row: before each turn the rows passed are those that `relaxedTwice` gives (RowsWalked).
 use Prim.Native.Nat.{_-_}
 use borrow.Author.Needs.{needs}
-use Rattle.elimination.specs.inner.Relax.{relaxedTwice}
+use Rattle.relax.specs.Relax.{relaxedTwice}
 use Rattle.elimination.proofs.Geometry.{place-room, end-room, bytes-room}
 use Rattle.elimination.proofs.Rows.{RowsWalked, begins, row-inside, goes-on, ends-two}
 use Rattle.elimination.proofs.passes.rows_two.Statement.{statement}

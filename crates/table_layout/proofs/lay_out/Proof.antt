@@ -3,9 +3,9 @@ use Prim.Native.Nat.{_-_}
 use native.Mathlib.Omega.{arith}
 use lib.ListN.{length-set, length-take, length-drop}
 use borrow.Author.Needs.{needs}
-use Rattle.elimination.proofs.Diagonal.{Laying, begins, stretch, copied, ends}
-use Rattle.elimination.proofs.layout.lay_out.Statement.{statement}
-use Rattle.elimination.proofs.layout.lay_out.Tie as tie
+use Rattle.table_layout.proofs.Diagonal.{Laying, begins, stretch, copied, ends}
+use Rattle.table_layout.proofs.lay_out.Statement.{statement}
+use Rattle.table_layout.proofs.lay_out.Tie as tie
 
 pub lay-out-spec : {M : Type 1} → statement M
 lay-out-spec =

@@ -2,8 +2,7 @@
 ghost use mathlib.Core.Path.{_≡_};
 ghost use Prim.Native.Nat.{_+_, _*_, _<_, _≤_};
 ghost use lib.ListN.{length};
-ghost use Rattle.elimination.specs.inner.Relax.{relaxed, relaxedTwice};
-ghost use Rattle.elimination.specs.inner.Rows.{PairWalked};
+ghost use Rattle.relax.specs.Relax.{relaxed, relaxedTwice, PairWalked};
 ghost use Rattle.memory.specs.Walked.{Walked};
 use semiring::Algebra;
 use semiring::product;

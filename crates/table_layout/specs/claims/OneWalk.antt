@@ -5,7 +5,7 @@ use mathlib.Core.List.{List}
 use lib.ListN.{length, set}
 use Rattle.semiring.specs.declared.Algebra.{Algebra}
 use Rattle.closure.specs.Table.{entries, rowByRow, withOwn}
-use Rattle.elimination.specs.LaidOut.{laidOut}
+use Rattle.table_layout.specs.LaidOut.{laidOut}
 
 -- Before the first step nothing has changed.
 abbrev pub No-step : Type 0

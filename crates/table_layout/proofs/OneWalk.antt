@@ -9,8 +9,8 @@ use Rattle.memory.proofs.ListOf.{length-listOf, getD-listOf}
 use Rattle.memory.proofs.Walk.{walked-one, walked-same, walked-front}
 use Rattle.semiring.specs.declared.Algebra.{Algebra}
 use Rattle.closure.specs.Table.{entries, rowByRow, withOwn}
-use Rattle.elimination.specs.LaidOut.{laidOut}
-use Rattle.elimination.specs.claims.OneWalk.{No-step, One-step, All-steps}
+use Rattle.table_layout.specs.LaidOut.{laidOut}
+use Rattle.table_layout.specs.claims.OneWalk.{No-step, One-step, All-steps}
 
 pub no-step : No-step
 no-step a n weights old = refl

@@ -21,7 +21,7 @@ use Rattle.memory.proofs.Walk.{walked-none, walked-one, walked-part, walked-to,
 use Rattle.semiring.specs.Algebra.{ownOf}
 use Rattle.semiring.specs.declared.Algebra.{Algebra}
 use Rattle.closure.specs.Table.{entries, rowByRow, withOwn}
-use Rattle.elimination.specs.LaidOut.{laidOut, ToLayOut}
+use Rattle.table_layout.specs.LaidOut.{laidOut, ToLayOut}
 
 -- What is to stand at place p.
 abbrev pub laid : ℕ → ℕ → List ℕ → ℕ → ℕ → ℕ

@@ -1,6 +1,6 @@
 // The table with its diagonal set, laid out in one walk.
 ghost use mathlib.Core.Path.{_≡_};
-ghost use Rattle.elimination.specs.LaidOut.{laidOut, ToLayOut};
+ghost use Rattle.table_layout.specs.LaidOut.{laidOut, ToLayOut};
 use memory::copy;
 use memory::smaller;
 use semiring::Algebra;
