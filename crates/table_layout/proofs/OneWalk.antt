@@ -5,12 +5,13 @@ use mathlib.Core.Path.{_≡_, refl, sym, ap, ap₂, _∙_}
 use mathlib.Core.List.{List, [], _++_, append-nil}
 use lib.ListN.{length, set, drop-of-length-le}
 use lib.Seq.{take-all}
+use Rattle.memory.specs.Lists.{listOf}
 use Rattle.memory.proofs.ListOf.{length-listOf, getD-listOf}
 use Rattle.memory.proofs.Walk.{walked-one, walked-same, walked-front}
 use Rattle.semiring.specs.declared.Algebra.{Algebra}
 use Rattle.closure.specs.Table.{entries, rowByRow, withOwn}
 use Rattle.table_layout.specs.LaidOut.{laidOut}
-use Rattle.table_layout.specs.claims.OneWalk.{No-step, One-step, All-steps}
+use Rattle.table_layout.specs.claims.OneWalk.{No-step, One-step, All-steps, Steps-card}
 
 pub no-step : No-step
 no-step a n weights old = refl
@@ -37,3 +38,7 @@ one-step a n m weights old fits h = step a n weights old fits m h
 
 pub all-steps : All-steps
 all-steps a n weights old fits = all a n weights old fits
+
+pub steps-card : Steps-card
+unfolding listOf
+steps-card = (refl, refl, refl, refl, refl, refl)

@@ -4,6 +4,10 @@ use Rattle.paths.proofs.Refusals.{refused, cells-fit, to-lay-out, to-cl
 use Rattle.paths.proofs.eliminate.Statement.{statement}
 use Rattle.paths.proofs.eliminate.Tie as tie
 
+-- what an accepted call leaves
+closes : tie.Need-returns-2
+closes c = search accepted
+
 pub eliminate-spec : {M : Type 1} → statement M
 eliminate-spec =
     tie.close
@@ -19,4 +23,4 @@ eliminate-spec =
     (λ c κs. search to-lay-out)
     (λ c κs. search to-close)
     (λ c. search needs)
-    (λ c. search accepted))
+    closes)

@@ -7,12 +7,25 @@ use Rattle.table_layout.proofs.Diagonal.{Laying, begins, stretch, copie
 use Rattle.table_layout.proofs.lay_out.Statement.{statement}
 use Rattle.table_layout.proofs.lay_out.Tie as tie
 
+abbrev Inv : tie.InvT-loop
+Inv n m weights table₀ word at₀ table at = Laying word n m weights table₀ at table
+
+abbrev μ : tie.MeasureT-loop
+μ n m weights table₀ word at₀ table at = m - at
+
+-- what the walk leaves
+after-m-steps : tie.Need-returns Inv μ
+after-m-steps c = search ends
+
+one-stretch : tie.Need-loop-again Inv μ
+one-stretch c = search copied
+
 pub lay-out-spec : {M : Type 1} → statement M
 lay-out-spec =
     tie.close
     (tie.spec
-    (λ n m weights table₀ word at₀ table at. Laying word n m weights table₀ at table)
-    (λ n m weights table₀ word at₀ table at. m - at)
+    Inv
+    μ
     (λ c κs. search needs)
     (λ c. search begins)
     -- the own word
@@ -33,6 +46,6 @@ lay-out-spec =
     (λ c κs. simp (length-take, length-drop, length-set) (omega arith))
     -- the next turn, and the end
     (λ c. search needs)
-    (λ c. search copied)
+    one-stretch
     (λ c. search needs)
-    (λ c. search ends))
+    after-m-steps)

@@ -7,12 +7,25 @@ use Rattle.byte_tables.proofs.Stretch.{of-words, byte-stretch, decodes}
 use Rattle.byte_tables.proofs.layout.lay_out.Statement.{statement}
 use Rattle.byte_tables.proofs.layout.lay_out.Tie as tie
 
+abbrev Inv : tie.InvT-loop
+Inv n m weights table₀ word at₀ table at = Laying word n m (decoded weights) table₀ at table
+
+abbrev μ : tie.MeasureT-loop
+μ n m weights table₀ word at₀ table at = m - at
+
+-- what the walk leaves
+after-m-steps : tie.Need-returns Inv μ
+after-m-steps c = search (ends, of-words)
+
+one-stretch : tie.Need-loop-again Inv μ
+one-stretch c = search decodes
+
 pub lay-out-spec : {M : Type 1} → statement M
 lay-out-spec =
     tie.close
     (tie.spec
-    (λ n m weights table₀ word at₀ table at. Laying word n m (decoded weights) table₀ at table)
-    (λ n m weights table₀ word at₀ table at. m - at)
+    Inv
+    μ
     (λ c κs. search needs)
     (λ c. search begins)
     -- the own word
@@ -34,6 +47,6 @@ lay-out-spec =
     (λ c κs. search byte-stretch)
     -- the next turn, and the end
     (λ c. search needs)
-    (λ c. search decodes)
+    one-stretch
     (λ c. search needs)
-    (λ c. search (ends, of-words)))
+    after-m-steps)

@@ -6,12 +6,22 @@ use Rattle.padded.proofs.Written.{Writing, begins, size, to-encode, goe
 use Rattle.padded.proofs.encoding.encode.Statement.{statement}
 use Rattle.padded.proofs.encoding.encode.Tie as tie
 
+abbrev Inv : tie.InvT-loop
+Inv n table result₀ i₀ result i = Writing n table result₀ i result
+
+abbrev μ : tie.MeasureT-loop
+μ n table result₀ i₀ result i = n - i
+
+-- what a turn leaves
+one-row : tie.Need-loop-again Inv μ
+one-row c = search goes-on
+
 pub encode-spec : {M : Type 1} → statement M
 encode-spec =
     tie.close
     (tie.spec
-    (λ n table result₀ i₀ result i. Writing n table result₀ i result)
-    (λ n table result₀ i₀ result i. n - i)
+    Inv
+    μ
     (λ c. search begins)
     -- the row's words and its bytes
     (λ c. search geometry)
@@ -31,6 +41,6 @@ encode-spec =
     -- the next turn, and the end
     (λ c. search needs)
     (λ c. search needs)
-    (λ c. search goes-on)
+    one-row
     (λ c. search needs)
     (λ c. search ends))

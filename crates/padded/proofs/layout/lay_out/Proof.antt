@@ -6,12 +6,22 @@ use Rattle.padded.proofs.Rows.{Laying, begins, words, to-decode, place-
 use Rattle.padded.proofs.layout.lay_out.Statement.{statement}
 use Rattle.padded.proofs.layout.lay_out.Tie as tie
 
+abbrev Inv : tie.InvT-loop
+Inv n rows weights table₀ word i₀ table i = Laying word n rows weights table₀ i table
+
+abbrev μ : tie.MeasureT-loop
+μ n rows weights table₀ word i₀ table i = rows - i
+
+-- what a turn leaves
+one-row : tie.Need-loop-again Inv μ
+one-row c = search goes-on
+
 pub lay-out-spec : {M : Type 1} → statement M
 lay-out-spec =
     tie.close
     (tie.spec
-    (λ n rows weights table₀ word i₀ table i. Laying word n rows weights table₀ i table)
-    (λ n rows weights table₀ word i₀ table i. rows - i)
+    Inv
+    μ
     (λ c κs. search needs)
     (λ c. search begins)
     -- the row's bytes and its words
@@ -36,6 +46,6 @@ lay-out-spec =
     -- the next turn, and the end
     (λ c. search needs)
     (λ c. search needs)
-    (λ c. search goes-on)
+    one-row
     (λ c. search needs)
     (λ c. search ends))

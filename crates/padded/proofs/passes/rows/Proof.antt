@@ -6,12 +6,22 @@ use Rattle.padded.proofs.Closing.{Relaxing, no-row, walked-words, row-r
 use Rattle.padded.proofs.passes.rows.Statement.{statement}
 use Rattle.padded.proofs.passes.rows.Tie as tie
 
+abbrev Inv : tie.InvT-loop
+Inv a n k via table₀ i₀ table i = Relaxing a k via table₀ i table
+
+abbrev μ : tie.MeasureT-loop
+μ a n k via table₀ i₀ table i = n - i
+
+-- what a turn leaves
+one-row : tie.Need-loop-again Inv μ
+one-row c = search row-relaxed
+
 pub rows-spec : {M : Type 1} → statement M
 rows-spec =
     tie.close
     (tie.spec
-    (λ a n k via table₀ i₀ table i. Relaxing a k via table₀ i table)
-    (λ a n k via table₀ i₀ table i. n - i)
+    Inv
+    μ
     (λ c. search no-row)
     -- the row's place
     (λ c. search geometry)
@@ -24,6 +34,6 @@ rows-spec =
     -- the next turn, and the end
     (λ c. search needs)
     (λ c. search needs)
-    (λ c. search row-relaxed)
+    one-row
     (λ c. search needs)
     (λ c. search rows-relaxed))
