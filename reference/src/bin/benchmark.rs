@@ -4,6 +4,8 @@
 //! "rust" is the same algorithm in safe Rust; "other" is SSE2 by hand for the elimination, and the plain model of the
 //! array, cell by cell, for the array and the bench. No buffer is cleared between rounds; each contender writes its
 //! whole result.
+//!
+//! Where sizes are named, `benchmark SIZE..`, the elimination alone is timed, at those.
 
 use reference::algebra::Algebra;
 use reference::bench::row_sheet::row_sheet;
@@ -27,7 +29,7 @@ use std::cell::RefCell;
 use std::hint::black_box;
 
 const SEED: u64 = 0x5EED_0F0A_7AB1_E002;
-const ELIMINATION_SIZES: [usize; 5] = [4, 8, 16, 32, MAX_SIZE];
+const ELIMINATION_SIZES: [usize; 7] = [2, 4, 8, 12, 16, 32, MAX_SIZE];
 const WAY_SIZES: [usize; 3] = [8, 32, MAX_SIZE];
 /// At least; one of the largest table takes seconds.
 const WAY_ROUNDS: usize = 2;
@@ -40,10 +42,19 @@ fn main() {
         "{:<12}{:>5}  {:<9}{:>11}{:>11}{:>11}{:>11}{:>11}  unit",
         "what", "size", "algebra", "ours", "rust", "other", "ours/rust", "ours/other"
     );
-    for size in ELIMINATION_SIZES {
+    let named = sizes_named();
+    let sizes = if named.is_empty() {
+        ELIMINATION_SIZES.to_vec()
+    } else {
+        named.clone()
+    };
+    for size in sizes {
         for algebra in Algebra::ALL {
             eliminations(&mut random, algebra, size);
         }
+    }
+    if !named.is_empty() {
+        return;
     }
     for algebra in Algebra::ALL {
         // Jobs of one point: the array works on all its cells, and there is next to nothing to read and print.
@@ -68,6 +79,15 @@ fn main() {
             all_ways(&mut random, algebra, size);
         }
     }
+}
+
+/// The sizes that the command line names.
+fn sizes_named() -> Vec<usize> {
+    let size = |word: String| match word.parse() {
+        Ok(size) if (1..=MAX_SIZE).contains(&size) => size,
+        _ => panic!("a size is a number from 1 to {MAX_SIZE}: {word}"),
+    };
+    std::env::args().skip(1).map(size).collect()
 }
 
 /// The times are ours, rust's and, where there is one, the other's.
