@@ -53,11 +53,19 @@ pub fn relax_pair(a: Algebra, n: usize, k: usize, via: &[u16], next: &[u16], row
     let v = sum(a, rows[n + k + 1], product(a, u, via[k + 1]));
     let mut p = 0;
     while p < n {
-        let f = via[p];
-        let g = next[p];
+        let first = via[p];
+        let second = next[p];
         let q = n + p;
-        rows[p] = sum(a, sum(a, rows[p], product(a, x, f)), product(a, y, g));
-        rows[q] = sum(a, sum(a, rows[q], product(a, u, f)), product(a, v, g));
+        rows[p] = sum(
+            a,
+            sum(a, rows[p], product(a, x, first)),
+            product(a, y, second),
+        );
+        rows[q] = sum(
+            a,
+            sum(a, rows[q], product(a, u, first)),
+            product(a, v, second),
+        );
         p += 1;
     }
 }
