@@ -39,7 +39,7 @@ enum paths_outcome {
  * Neither pointer may be null, also where its length is 0, and the two buffers must not overlap. Both must hold as
  * many bytes as their lengths say, also in a call that is refused.
  *
- * The call allocates nothing. Measured, it needs 2 KB of stack up to 16 points, 19 KB up to 64 and 68 KB up to 128; where the
+ * The call allocates nothing. Measured, it needs 1 KB of stack up to 8 points, 2 KB up to 16, 10 KB up to 64 and 34 KB up to 128; where the
  * loader binds memcpy and memset late, the first call needs some 4 KB more.
  *
  * Returns PATHS_OK, or the number of the refusal; a refused call changes no byte of result.
