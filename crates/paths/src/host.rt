@@ -1,6 +1,6 @@
 // The elimination for a host in C: two bytes a word, low byte first. The table lies in an array of this call, the smallest of four
-// that holds it, since an array is cleared when it is made. Each room lays out, closes and encodes by itself: with these shared, the
-// compiler put the largest array into the frame of every call.
+// that holds it, since an array is cleared when it is made. Each room lays out, closes and encodes by itself, and is called from
+// here: with either shared, the compiler put the largest array into the frame of every call.
 ghost use mathlib.Core.Path.{_≡_};
 ghost use lib.ListN.{length};
 ghost use Rattle.closure.specs.Elimination.{eliminated};
@@ -85,26 +85,6 @@ fn in_large_room(a: Algebra, size: usize, weights: &[u8], result: &mut [u8])
     encode(front, result);
 }
 
-// In the smallest room that holds the table.
-fn in_room(a: Algebra, size: usize, weights: &[u8], result: &mut [u8])
-    requires { ⌜ Fit size 128 (now weights) (now result) ⌝ }
-    ensures { λ _. ⌜ now (result .exit) ≡ encoded (eliminated a size (decoded (now (weights .entry)))) ⌝ }
-{
-    if size <= 8 {
-        in_padded_room(a, size, weights, result);
-        return;
-    }
-    if size <= 16 {
-        in_small_room(a, size, weights, result);
-        return;
-    }
-    if size <= 64 {
-        in_middle_room(a, size, weights, result);
-        return;
-    }
-    in_large_room(a, size, weights, result);
-}
-
 // The elimination on byte slices. It returns 0, or the refusal's number, and then leaves the result as it was.
 #[no_mangle]
 pub extern "C" fn paths_eliminate(
@@ -133,6 +113,18 @@ pub extern "C" fn paths_eliminate(
     if has_word_above(a, weights) {
         return 5;
     }
-    in_room(a, size, weights, result);
+    if size <= 8 {
+        in_padded_room(a, size, weights, result);
+        return 0;
+    }
+    if size <= 16 {
+        in_small_room(a, size, weights, result);
+        return 0;
+    }
+    if size <= 64 {
+        in_middle_room(a, size, weights, result);
+        return 0;
+    }
+    in_large_room(a, size, weights, result);
     0
 }

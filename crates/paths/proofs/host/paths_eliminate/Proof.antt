@@ -1,4 +1,4 @@
--- `paths_eliminate` makes its tests before it makes room; each return is found from the table of tests, and the room does the rest.
+-- `paths_eliminate` makes its tests before it makes room; each return is found from the table of tests, and the rooms do the rest.
 use native.Mathlib.Omega.{arith}
 use borrow.Author.Needs.{needs}
 use Rattle.refusals.proofs.First.{tests}
@@ -30,7 +30,19 @@ paths-eliminate-spec =
     -- the words
     (λ c κs. search needs)
     (λ c. search (refused, tests) depth 9)
-    -- the elimination
+    -- a room of rows of eight words
+    (λ c κs. search needs)
+    (λ c. search needs)
+    (λ c. search (accepted, tests) depth 9)
+    -- a small one
+    (λ c κs. search needs)
+    (λ c. search needs)
+    (λ c. search (accepted, tests) depth 9)
+    -- a middle one
+    (λ c κs. search needs)
+    (λ c. search needs)
+    (λ c. search (accepted, tests) depth 9)
+    -- a large one
     (λ c κs. search needs)
     (λ c. search needs)
     (λ c. search (accepted, tests) depth 9))

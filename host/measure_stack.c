@@ -1,0 +1,75 @@
+/*
+ * Measures the stack that the elimination needs, on a stack painted before the call, and holds it to the figures of
+ * paths.h. Which arrays share a frame is the compiler's choice, and no proof speaks of it.
+ */
+#define _XOPEN_SOURCE 600
+#include "paths.h"
+
+#include <stdio.h>
+#include <stdlib.h>
+#include <string.h>
+#include <ucontext.h>
+
+enum { STACK_BYTES = 1 << 18, PAINT = 0xA5, MAX_BYTES = 2 * PATHS_MAX_SIZE * PATHS_MAX_SIZE };
+
+/* The largest size that fits each figure, and the figure in KB. */
+static const struct {
+    size_t size, kilobytes;
+} rooms[] = {{8, 1}, {16, 2}, {64, 10}, {PATHS_MAX_SIZE, 34}};
+
+static ucontext_t caller, painted;
+static uint8_t weights[MAX_BYTES], result[MAX_BYTES], stack[STACK_BYTES];
+static uint32_t algebra, outcome;
+static size_t size;
+
+static void eliminate(void)
+{
+    size_t bytes = 2 * size * size;
+    outcome = paths_eliminate(algebra, size, weights, bytes, result, bytes);
+}
+
+static void nothing(void)
+{
+}
+
+/* The bytes of the stack that are no longer as painted, from the lowest on. */
+static size_t touched(void (*function)(void))
+{
+    size_t at = 0;
+    memset(stack, PAINT, STACK_BYTES);
+    if (getcontext(&painted) != 0) {
+        perror("getcontext");
+        exit(2);
+    }
+    painted.uc_stack.ss_sp = stack;
+    painted.uc_stack.ss_size = STACK_BYTES;
+    painted.uc_link = &caller;
+    makecontext(&painted, function, 0);
+    if (swapcontext(&caller, &painted) != 0) {
+        perror("swapcontext");
+        exit(2);
+    }
+    while (at < STACK_BYTES && stack[at] == PAINT)
+        at++;
+    return STACK_BYTES - at;
+}
+
+int main(void)
+{
+    size_t own = touched(nothing);
+    int failed = 0;
+    /* The first call binds the C library's functions. */
+    size = 1;
+    touched(eliminate);
+    for (size_t room = 0; room < sizeof rooms / sizeof rooms[0]; room++)
+        for (algebra = PATHS_REACH; algebra <= PATHS_STEEPEST; algebra++) {
+            size = rooms[room].size;
+            size_t used = touched(eliminate) - own;
+            printf("stack: %zu points, algebra %u: %zu bytes\n", size, (unsigned)algebra, used);
+            if (outcome != PATHS_OK || used > 1024 * rooms[room].kilobytes) {
+                printf("stack: paths.h says %zu KB\n", rooms[room].kilobytes);
+                failed = 1;
+            }
+        }
+    return failed;
+}
