@@ -29,12 +29,15 @@ high-byte words p =
     let half : (2 * p + 1) / 2 ≡ p = omega arith in
     rw (ne-eqb ((2 * p + 1) % 2) 0 (λ e. omega arith), half)
 
-pub length-wordsOf : (bytes : List ℕ) (m : ℕ) → length bytes ≡ 2 * m → length (decoded bytes) ≡ m
+-- An odd byte at the end is no word.
+pub length-decoded : (bytes : List ℕ) → length (decoded bytes) ≡ length bytes / 2
 unfolding decoded
-length-wordsOf [] m e = omega arith
-length-wordsOf (low ∷ []) m e = absurd (omega arith)
-length-wordsOf (low ∷ high ∷ bytes) zero e = absurd (omega arith)
-length-wordsOf (low ∷ high ∷ bytes) (suc m) e = ap suc (length-wordsOf bytes m (omega arith))
+length-decoded [] = refl
+length-decoded (low ∷ []) = omega arith
+length-decoded (low ∷ high ∷ bytes) = omega (arith, length-decoded bytes)
+
+pub length-wordsOf : (bytes : List ℕ) (m : ℕ) → length bytes ≡ 2 * m → length (decoded bytes) ≡ m
+length-wordsOf bytes m e = omega (arith, length-decoded bytes)
 
 pub getD-decoded : (bytes : List ℕ) (p : ℕ) → 2 * p + 1 < length bytes → getD (decoded bytes) p 0 ≡ wordAt bytes p
 unfolding decoded

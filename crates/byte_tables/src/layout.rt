@@ -1,8 +1,9 @@
 // The table with its diagonal set, laid out from a host's bytes in one walk: no word is copied in between.
 ghost use mathlib.Core.Path.{_≡_};
-ghost use Rattle.table_layout.specs.LaidOut.{laidOut};
+ghost use Prim.Native.Nat.{_*_};
+ghost use lib.ListN.{length};
+ghost use Rattle.table_layout.specs.LaidOut.{laidOut, ToLayOut};
 ghost use Rattle.byte_tables.specs.Bytes.{decoded};
-ghost use Rattle.byte_tables.specs.inner.Layout.{ToLayOutBytes};
 use crate::bytes::decode;
 use memory::smaller;
 use semiring::Algebra;
@@ -10,7 +11,7 @@ use semiring::own;
 
 // The first m steps, as `table_layout::lay_out` makes them.
 pub fn lay_out(a: Algebra, n: usize, m: usize, weights: &[u8], table: &mut [u16])
-    requires { ⌜ ToLayOutBytes n m (now weights) (now table) ⌝ }
+    requires { ⌜ ToLayOut n m (decoded (now weights)) (now table) × (length (now weights) ≡ 2 * (n * n)) ⌝ }
     ensures { λ _. ⌜ now (table .exit) ≡ laidOut a n m (decoded (now (weights .entry))) (now (table .entry)) ⌝ }
 {
     let word = own(a);

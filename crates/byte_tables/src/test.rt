@@ -21,7 +21,7 @@ fn above(top: u16, bytes: &[u8]) -> bool
     found
 }
 
-// Whether a word of the bytes is none of the algebra's: only reach has fewer words than there are 16-bit numbers.
+// Whether some word of the bytes is not a word of the algebra: only reach has fewer words than there are 16-bit numbers.
 pub fn has_word_above(a: Algebra, bytes: &[u8]) -> bool
     ensures { λ r. ⌜ r ≡ anyAbove (topOf a) (decoded (now (bytes .entry))) ⌝ }
 {

@@ -6,8 +6,6 @@ use mathlib.Core.List.{List}
 use mathlib.Core.Bool.{Bool, true}
 use lib.Dec.{leb}
 use lib.ListN.{length, take}
-use mir.Syntax.{w64}
-use mir.Val.{Fits}
 use borrow.Author.Tests.{leb-true}
 use Rattle.memory.specs.Lists.{same}
 use Rattle.memory.proofs.Geometry.{square-fits, front}
@@ -20,9 +18,6 @@ use Rattle.closed.specs.inner.Tables.{Tables, Roomy}
 
 -- what the layout and the passes ask
 module _ {n : ℕ} {w c room : List ℕ} (roomy : Roomy n w c room) where
-  pub cells-fit : Fits w64 (n * n)
-  cells-fit = omega (arith, square-fits (roomy .tables .fits))
-
   pub to-lay-out : ToLayOut n (n * n) w room
   to-lay-out = record { most = roomy .tables .fits; weights-fit = roomy .tables .links; table-fit = roomy .words; steps = omega arith }
 

@@ -78,8 +78,8 @@ fn pass_two(a: Algebra, n: usize, k: usize, via: &mut [u16], next: &mut [u16], t
     copy(&table[at..middle], via);
     copy(&table[middle..end], next);
     relax(a, k, via, &mut next[..n]);
-    // Two rows in one loop go by vectors of eight words, one row by vectors of sixteen and of four: the first is faster where
-    // fewer than four words are left over.
+    // Compiled, two rows in one loop go in steps of eight words, one row in steps of sixteen and of four: the first is faster where fewer
+    // than four words are left over.
     if n % 8 < 4 {
         row_pairs(a, n, k, via, next, table);
         return;

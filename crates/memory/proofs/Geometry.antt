@@ -16,6 +16,9 @@ row-fits {i} {n} h = omega (arith, mul-le-mul-right n h)
 pub square-fits : {n most : ℕ} → n ≤ most → n * n ≤ most * most
 square-fits h = mul-le-mul h h
 
+pub cells-room : {n : ℕ} → n ≤ 128 → Fits w64 (n * n)
+cells-room most = omega (arith, square-fits most)
+
 -- the first n² words of a room for `most` squared
 pub front : {n most : ℕ} (l : List ℕ) → n ≤ most → length l ≡ most * most → length (take (n * n) l) ≡ n * n
 front {n} l h e = length-take-le (n * n) l (rw e (square-fits h))

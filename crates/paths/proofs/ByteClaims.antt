@@ -22,6 +22,7 @@ use Rattle.closure.specs.claims.Demand.{Best}
 use Rattle.closure.proofs.Demand.{closure-best}
 use Rattle.closure.proofs.Holds.{rowByRow-holds}
 use Rattle.byte_tables.specs.Bytes.{decoded, encoded}
+use Rattle.byte_tables.proofs.Parts.{decoded-16}
 use Rattle.paths.specs.Bytes.{hostTable, hostTests, hostAfter}
 use Rattle.paths.specs.claims.Host.{Round-trip, Demand2-host, hostConditions, Host-refusals, Host-kept}
 
@@ -48,14 +49,6 @@ best-after (Known a) n w r e =
 
 pub demand2-host : Demand2-host
 demand2-host number = best-after (namedOf number)
-
--- two bytes make a 16-bit word
-decoded-16 : (w : List ℕ) → ((p : ℕ) → p < length w → getD w p 0 ≤ 255) → Words16 (decoded w)
-unfolding decoded
-decoded-16 [] h p k = absurd (not-suc-le-zero k)
-decoded-16 (low ∷ []) h p k = absurd (not-suc-le-zero k)
-decoded-16 (low ∷ high ∷ w) h zero k = omega (arith, h 0 (omega arith), h 1 (omega arith))
-decoded-16 (low ∷ high ∷ w) h (suc p) k = decoded-16 w (λ m l. h (suc (suc m)) (omega arith)) p (omega arith)
 
 pub host-refusals : Host-refusals
 unfolding hostConditions

@@ -9,7 +9,7 @@ use lib.ListN.{length}
 use mir.Syntax.{w64}
 use mir.Val.{Fits}
 use borrow.Author.Tests.{ne-eqb}
-use Rattle.memory.proofs.Geometry.{square-fits}
+use Rattle.memory.proofs.Geometry.{cells-room}
 use Rattle.semiring.specs.Named.{namedOf}
 use Rattle.semiring.specs.declared.Algebra.{Algebra}
 use Rattle.semiring.specs.declared.Named.{Named}
@@ -44,7 +44,7 @@ module _ {checked : Checked} {algebra n : ℕ} {w r : List ℕ} (found : Checks 
   -- no test applied: what laying out and closing ask
   module _ {a : Algebra} (e : checked ≡ Fit a) where
     pub cells-fit : Fits w64 (n * n)
-    cells-fit = omega (arith, square-fits (fit-input found e .most))
+    cells-fit = cells-room (fit-input found e .most)
 
     pub to-lay-out : ToLayOut n (n * n) w r
     to-lay-out = let i = fit-input found e in record { most = i .most; weights-fit = i .weights; table-fit = i .result; steps = omega arith }

@@ -11,15 +11,15 @@ use Rattle.memory.proofs.Geometry.{square-fits, front}
 use Rattle.semiring.specs.declared.Algebra.{Algebra}
 use Rattle.closure.specs.Table.{entries, rowByRow}
 use Rattle.closure.specs.Elimination.{eliminated}
-use Rattle.table_layout.specs.LaidOut.{laidOut}
+use Rattle.table_layout.specs.LaidOut.{laidOut, ToLayOut}
 use Rattle.elimination.specs.inner.Passes as passes
 use Rattle.elimination.specs.inner.Rows.{Square}
 use Rattle.elimination.proofs.Eliminates as elimination
 use Rattle.byte_tables.specs.Bytes.{decoded, encoded}
-use Rattle.byte_tables.specs.inner.Layout.{ToLayOutBytes}
-use Rattle.padded.specs.Padded.{LaidRows}
-use Rattle.padded.specs.inner.Passes as padded-passes
-use Rattle.padded.proofs.Eliminates as padded
+use Rattle.byte_tables.proofs.Words.{length-wordsOf}
+use Rattle.stride_eight.specs.Strided.{LaidRows}
+use Rattle.stride_eight.specs.inner.Passes as strided-passes
+use Rattle.stride_eight.proofs.Eliminates as strided
 use Rattle.paths.specs.inner.Room.{Fit}
 
 module _ {n most : ℕ} {w r : List ℕ} (fit : Fit n most w r) where
@@ -30,10 +30,10 @@ module _ {n most : ℕ} {w r : List ℕ} (fit : Fit n most w r) where
   width l e = sym (front l (fit .size-fits) e)
 
   module _ (small : leb most 128 ≡ true) (l : List ℕ) (e : length l ≡ most * most) where
-    pub to-lay-out : ToLayOutBytes n (n * n) w (take (n * n) l)
+    pub to-lay-out : ToLayOut n (n * n) (decoded w) (take (n * n) l)
     to-lay-out = record {
       most = omega (arith, fit .size-fits, leb-true most 128 small);
-      weights-fit = fit .weights-fit;
+      weights-fit = length-wordsOf w (n * n) (fit .weights-fit);
       table-fit = front l (fit .size-fits) e;
       steps = omega arith;
     }
@@ -50,7 +50,7 @@ module _ {n most : ℕ} {w r : List ℕ} (fit : Fit n most w r) where
         writes ∙ ap encoded (elimination.eliminates a n (decoded w) (take (n * n) l) laid made (to-lay-out .table-fit) lays closes)
 
 -- rows of eight words
-pub written-padded : {n : ℕ} {w r r′ : List ℕ} → Fit n 8 w r → (a : Algebra) (old laid made : List ℕ) → LaidRows a n n (decoded w) old laid
-    → padded-passes.PassedAll a n laid made → r′ ≡ encoded (rowByRow n (entries 8 made)) → r′ ≡ encoded (eliminated a n (decoded w))
-written-padded {n} {w} fit a old laid made lays closes writes =
-    writes ∙ ap encoded (padded.eliminates a n (decoded w) old laid made (fit .size-fits) lays closes)
+pub written-strided : {n : ℕ} {w r r′ : List ℕ} → Fit n 8 w r → (a : Algebra) (old laid made : List ℕ) → LaidRows a n n (decoded w) old laid
+    → strided-passes.PassedAll a n laid made → r′ ≡ encoded (rowByRow n (entries 8 made)) → r′ ≡ encoded (eliminated a n (decoded w))
+written-strided {n} {w} fit a old laid made lays closes writes =
+    writes ∙ ap encoded (strided.eliminates a n (decoded w) old laid made (fit .size-fits) lays closes)

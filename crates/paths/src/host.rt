@@ -1,6 +1,6 @@
 // The elimination for a host in C: two bytes a word, low byte first. The table lies in an array of this call, the smallest of four
-// that holds it, since an array is cleared when it is made. Each room lays out, closes and encodes by itself, and is called from
-// here: with either shared, the compiler put the largest array into the frame of every call.
+// that holds it, since an array is cleared when it is made. Each of the four functions lays out, closes and encodes itself, and the
+// call chooses among them: with one more function in between, the compiler inlined them and every call reserved the largest array.
 ghost use mathlib.Core.Path.{_≡_};
 ghost use lib.ListN.{length};
 ghost use Rattle.closure.specs.Elimination.{eliminated};
@@ -15,7 +15,7 @@ use semiring::Algebra;
 use semiring::Named;
 use semiring::from_number;
 
-fn padded_room() -> [u16; 64]
+fn smallest_room() -> [u16; 64]
     ensures { λ r. ⌜ length r ≡ 64 ⌝ }
 {
     [0u16; 64]
@@ -39,14 +39,14 @@ fn large_room() -> [u16; 16384]
     [0u16; 16384]
 }
 
-fn in_padded_room(a: Algebra, size: usize, weights: &[u8], result: &mut [u8])
+fn in_smallest_room(a: Algebra, size: usize, weights: &[u8], result: &mut [u8])
     requires { ⌜ Fit size 8 (now weights) (now result) ⌝ }
     ensures { λ _. ⌜ now (result .exit) ≡ encoded (eliminated a size (decoded (now (weights .entry)))) ⌝ }
 {
-    let mut table = padded_room();
-    padded::lay_out(a, size, size, weights, &mut table);
-    padded::close(a, size, &mut table);
-    padded::encode(size, &table, result);
+    let mut table = smallest_room();
+    stride_eight::lay_out(a, size, size, weights, &mut table);
+    stride_eight::close(a, size, &mut table);
+    stride_eight::encode(size, &table, result);
 }
 
 fn in_small_room(a: Algebra, size: usize, weights: &[u8], result: &mut [u8])
@@ -114,7 +114,7 @@ pub extern "C" fn paths_eliminate(
         return 5;
     }
     if size <= 8 {
-        in_padded_room(a, size, weights, result);
+        in_smallest_room(a, size, weights, result);
         return 0;
     }
     if size <= 16 {

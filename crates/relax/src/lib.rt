@@ -1,4 +1,4 @@
-// One row of a table through one point or through two, or two rows at once: the loops that run n³ times.
+// One row of a table through one point or through two, or two rows at once: the loops whose bodies run in the order of n³ times.
 ghost use mathlib.Core.Path.{_≡_};
 ghost use Prim.Native.Nat.{_+_, _*_, _<_, _≤_};
 ghost use lib.ListN.{length};

@@ -20,12 +20,15 @@ use Rattle.memory.proofs.Part.{part-length, part-word}
 use Rattle.memory.proofs.Walk.{walked-none, walked-one, walked-part, walked-to, spanned-as, walked-same, walked-front}
 use Rattle.semiring.specs.Algebra.{ownOf}
 use Rattle.semiring.specs.declared.Algebra.{Algebra}
-use Rattle.closure.specs.Table.{entries, rowByRow, withOwn}
+use Rattle.closure.specs.Table.{Table, entries, rowByRow, withOwn}
 use Rattle.table_layout.specs.LaidOut.{laidOut, ToLayOut}
 
--- What is to stand at place p.
+-- The table with `own` on its diagonal, and what is to stand at place p.
+abbrev pub owned : ℕ → ℕ → List ℕ → Table
+owned own n weights i j = cond (eqb i j) own (entries n weights i j)
+
 abbrev pub laid : ℕ → ℕ → List ℕ → ℕ → ℕ → ℕ
-laid own n weights p word = cond (eqb (p / n) (p % n)) own (entries n weights (p / n) (p % n))
+laid own n weights p word = owned own n weights (p / n) (p % n)
 
 module _ (own n : ℕ) (weights : List ℕ) where
   on-diagonal : (d at : ℕ) → at ≡ d * n + d → d < n → laid own n weights at 0 ≡ own

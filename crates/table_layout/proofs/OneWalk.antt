@@ -1,8 +1,8 @@
--- What the steps of the walk are: none changes nothing, one writes one word, all of them leave the table.
+-- How the result grows with the steps: none changes nothing, one writes one word, all of them leave the table.
 use Prim.Native.Nat.{ℕ, _+_, _*_, _/_, _%_, _<_}
 use native.Mathlib.Omega.{arith}
-use mathlib.Core.Path.{_≡_, refl, sym, ap, ap₂, _∙_}
-use mathlib.Core.List.{List, [], _++_, append-nil}
+use mathlib.Core.Path.{_≡_, refl, sym, ap₂, _∙_}
+use mathlib.Core.List.{List, _++_, append-nil}
 use lib.ListN.{length, set, drop-of-length-le}
 use lib.Seq.{take-all}
 use Rattle.memory.specs.Lists.{listOf}
@@ -11,7 +11,11 @@ use Rattle.memory.proofs.Walk.{walked-one, walked-same, walked-front}
 use Rattle.semiring.specs.declared.Algebra.{Algebra}
 use Rattle.closure.specs.Table.{entries, rowByRow, withOwn}
 use Rattle.table_layout.specs.LaidOut.{laidOut}
-use Rattle.table_layout.specs.claims.OneWalk.{No-step, One-step, All-steps, Steps-card}
+use Rattle.table_layout.specs.claims.OneWalk.{Every-m, No-step, One-step, All-steps, Steps-card}
+
+pub every-m : Every-m
+every-m n m weights table most weights-fit table-fit steps =
+    record { most = most; weights-fit = weights-fit; table-fit = table-fit; steps = steps }
 
 pub no-step : No-step
 no-step a n weights old = refl
@@ -41,4 +45,4 @@ all-steps a n weights old fits = all a n weights old fits
 
 pub steps-card : Steps-card
 unfolding listOf
-steps-card = (refl, refl, refl, refl, refl, refl)
+steps-card = (refl, refl, refl, refl, refl, refl, refl)

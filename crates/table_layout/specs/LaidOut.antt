@@ -11,7 +11,7 @@ use Rattle.closure.specs.Table.{entries, rowByRow, withOwn}
 abbrev pub laidOut : Algebra → ℕ → ℕ → List ℕ → List ℕ → List ℕ
 laidOut a n m weights old = take m (rowByRow n (withOwn a (entries n weights))) ++ drop m old
 
--- What the walk asks: a size in the range of the elimination, both lengths fit it, and there are m words.
+-- What `lay_out` asks: a size of at most 128, both lengths fit it, and m is at most n².
 pub record ToLayOut (n m : ℕ) (weights table : List ℕ) : Type 0 where
   pub most : n ≤ 128
   pub weights-fit : length weights ≡ n * n

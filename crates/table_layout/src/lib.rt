@@ -6,8 +6,8 @@ use memory::smaller;
 use semiring::Algebra;
 use semiring::own;
 
-// The first m steps of the walk: a step lays out one word of the table, and never touches it again. From one place on the diagonal
-// to the next the walk takes the own word, then the n words of the weights between the two.
+// The first m steps of the walk: a step writes one word of the table, and no later step writes it. From one place on the diagonal to
+// the next the walk takes the own word, then the n words of the weights between the two.
 pub fn lay_out(a: Algebra, n: usize, m: usize, weights: &[u16], table: &mut [u16])
     requires { ⌜ ToLayOut n m (now weights) (now table) ⌝ }
     ensures { λ _. ⌜ now (table .exit) ≡ laidOut a n m (now (weights .entry)) (now (table .entry)) ⌝ }

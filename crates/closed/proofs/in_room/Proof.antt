@@ -1,16 +1,21 @@
 -- `in_room` lays the links out, closes them and compares.
 use borrow.Author.Needs.{needs}
-use Rattle.closed.proofs.Compared.{cells-fit, to-lay-out, compared}
+use Rattle.memory.proofs.Geometry.{cells-room}
+use Rattle.closed.proofs.Compared.{to-lay-out, compared}
 use Rattle.closed.proofs.in_room.Statement.{statement}
 use Rattle.closed.proofs.in_room.Tie as tie
+
+-- what it answers
+answer : tie.Need-returns
+answer c = search compared
 
 pub in-room-spec : {M : Type 1} → statement M
 in-room-spec =
     tie.close
     (tie.spec
-    (λ c. search cells-fit)
+    (λ c. search cells-room)
     (λ c κs. search to-lay-out)
     (λ c κs. search needs)
     (λ c κs. search needs)
     (λ c. search needs)
-    (λ c. search compared))
+    answer)

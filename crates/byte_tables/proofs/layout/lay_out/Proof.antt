@@ -3,7 +3,7 @@ use Prim.Native.Nat.{_-_}
 use borrow.Author.Needs.{needs}
 use Rattle.table_layout.proofs.Diagonal.{Laying, begins, stretch, ends}
 use Rattle.byte_tables.specs.Bytes.{decoded}
-use Rattle.byte_tables.proofs.Stretch.{of-words, byte-stretch, decodes}
+use Rattle.byte_tables.proofs.Stretch.{byte-stretch, decodes}
 use Rattle.byte_tables.proofs.layout.lay_out.Statement.{statement}
 use Rattle.byte_tables.proofs.layout.lay_out.Tie as tie
 
@@ -15,7 +15,7 @@ abbrev μ : tie.MeasureT-loop
 
 -- what the walk leaves
 after-m-steps : tie.Need-returns Inv μ
-after-m-steps c = search (ends, of-words)
+after-m-steps c = search ends
 
 one-stretch : tie.Need-loop-again Inv μ
 one-stretch c = search decodes
@@ -29,21 +29,21 @@ lay-out-spec =
     (λ c κs. search needs)
     (λ c. search begins)
     -- the own word
-    (λ c. search (stretch, of-words))
-    (λ c. search (stretch, of-words))
+    (λ c. search stretch)
+    (λ c. search stretch)
     -- the stretch of the weights, and that of the table
-    (λ c. search (stretch, of-words))
-    (λ c. search (stretch, of-words))
+    (λ c. search stretch)
+    (λ c. search stretch)
     (λ c κs. search needs)
     (λ c. search byte-stretch)
     (λ c. search byte-stretch)
     (λ c. search needs)
     (λ c. search byte-stretch)
     (λ c. search byte-stretch)
-    (λ c. search (stretch, of-words))
+    (λ c. search stretch)
     (λ c. search needs)
-    (λ c. search (stretch, of-words))
-    (λ c. search (stretch, of-words))
+    (λ c. search stretch)
+    (λ c. search stretch)
     (λ c κs. search byte-stretch)
     -- the next turn, and the end
     (λ c. search needs)

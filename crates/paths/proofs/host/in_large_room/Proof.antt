@@ -4,6 +4,10 @@ use Rattle.paths.proofs.Rooms.{inside, width, to-lay-out, to-close, to-
 use Rattle.paths.proofs.host.in_large_room.Statement.{statement}
 use Rattle.paths.proofs.host.in_large_room.Tie as tie
 
+-- what it leaves
+left : tie.Need-returns
+left c = search written
+
 pub in-large-room-spec : {M : Type 1} → statement M
 in-large-room-spec =
     tie.close
@@ -18,4 +22,4 @@ in-large-room-spec =
     (λ c κs. search to-close)
     (λ c κs. search to-encode)
     (λ c. search needs)
-    (λ c. search written))
+    left)

@@ -4,6 +4,10 @@ use Rattle.paths.proofs.Rooms.{inside, width, to-lay-out, to-close, to-
 use Rattle.paths.proofs.host.in_small_room.Statement.{statement}
 use Rattle.paths.proofs.host.in_small_room.Tie as tie
 
+-- what it leaves
+left : tie.Need-returns
+left c = search written
+
 pub in-small-room-spec : {M : Type 1} → statement M
 in-small-room-spec =
     tie.close
@@ -18,4 +22,4 @@ in-small-room-spec =
     (λ c κs. search to-close)
     (λ c κs. search to-encode)
     (λ c. search needs)
-    (λ c. search written))
+    left)

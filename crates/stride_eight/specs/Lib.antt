@@ -1,0 +1,3 @@
+pub mod Strided
+pub mod inner
+pub mod claims
