@@ -15,7 +15,7 @@ extern "C" {
 /* What a word says, and so how two words are joined and which of two is the better. */
 enum paths_algebra {
     PATHS_REACH = 0,    /* 1 where there is a way, else 0; no other word is accepted */
-    PATHS_DISTANCE = 1, /* length of the shortest way, held at 65535; 65535 where there is none */
+    PATHS_DISTANCE = 1, /* length of the shortest way, held at 65534: 65534 or more; 65535 where there is none */
     PATHS_STEEPEST = 2  /* smallest steepest link of a way; 65535 where there is none */
 };
 

@@ -13,6 +13,7 @@ _Static_assert(sizeof(size_t) == 8, "the sizes below whose square overflows are 
 
 enum {
     NONE = 65535,
+    FAR = 65534, /* or more, in distance */
     GUARD = 15, GUARD_BYTE = 0xC3,
     MAX_WORDS = (PATHS_MAX_SIZE + 1) * (PATHS_MAX_SIZE + 1),
     MAX_BYTES = 2 * MAX_WORDS
@@ -147,16 +148,17 @@ static void bench_cards(void)
     ACCEPT(PATHS_REACH, 3, reach_links, ones);  /* B5 */
 }
 
-/* Two links in a row: the sum is held at the none word where 16 bits would wrap. B6 and B7 are the first two. */
+/* Two links in a row: in distance the sum is held at 65534, and none comes only from none. B6 and B7 are the first two. */
 static void joined_links(void)
 {
     const struct {
         uint16_t first, second, distance, steepest;
     } cards[] = {
-        {40000, 25534, 65534, 40000}, {40000, 25535, NONE, 40000}, {40000, 25536, NONE, 40000},
-        {32768, 32768, NONE, 32768},  {65534, 0, 65534, 65534},    {65534, 1, NONE, 65534},
-        {1, 65534, NONE, 65534},      {NONE, NONE, NONE, NONE},    {NONE, 1, NONE, NONE},
-        {255, 1, 256, 255},           {0, 0, 0, 0},                {256, 255, 511, 256},
+        {40000, 25534, FAR, 40000}, {40000, 25535, FAR, 40000}, {40000, 25536, FAR, 40000}, {40000, 25533, 65533, 40000},
+        {32768, 32768, FAR, 32768}, {FAR, 0, FAR, FAR},         {FAR, 1, FAR, FAR},         {1, FAR, FAR, FAR},
+        {FAR, FAR, FAR, FAR},       {FAR, NONE, NONE, NONE},    {NONE, FAR, NONE, NONE},    {NONE, NONE, NONE, NONE},
+        {NONE, 1, NONE, NONE},      {0, NONE, NONE, NONE},      {255, 1, 256, 255},         {0, 0, 0, 0},
+        {256, 255, 511, 256},
     };
     for (size_t at = 0; at < COUNT(cards); at++) {
         uint16_t x = cards[at].first, y = cards[at].second;
@@ -174,7 +176,7 @@ static uint16_t join(uint32_t algebra, uint16_t x, uint16_t y)
         return 1;
     if (algebra == PATHS_STEEPEST)
         return x > y ? x : y;
-    return (uint32_t)x + y > NONE ? NONE : (uint16_t)(x + y);
+    return (uint32_t)x + y > FAR ? FAR : (uint16_t)(x + y);
 }
 
 /* Each point has one link, to the next; the last has one to the first where the ring is closed. So a pair has one way

@@ -51,12 +51,13 @@ impl Algebra {
         }
     }
 
-    /// Two links joined.
+    /// Two links joined. In distance none comes only from none.
     pub fn product(self, x: u16, y: u16) -> u16 {
         match self {
             Algebra::Reach => x.min(y),
-            // In 32 bits the addition cannot wrap, so that it is plain where it is held.
-            Algebra::Distance => (u32::from(x) + u32::from(y)).min(65535) as u16,
+            Algebra::Distance if x == self.none() || y == self.none() => self.none(),
+            // K4: 65534 means 65534 or more. In 32 bits the addition cannot wrap, so that it is plain where it is held.
+            Algebra::Distance => (u32::from(x) + u32::from(y)).min(65534) as u16,
             Algebra::Steepest => x.max(y),
         }
     }

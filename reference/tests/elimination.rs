@@ -4,7 +4,9 @@
 use reference::algebra::Algebra::{self, Distance, Reach, Steepest};
 use reference::elimination::damages::damaged_call;
 use reference::elimination::eliminate;
+use reference::elimination::lengths::{has_far_and_none, lengths, word_of};
 use reference::elimination::refusal::{refusal, NUMBERS};
+use reference::elimination::rust_loop::joined;
 use reference::elimination::tables::{table, Kind};
 use reference::random::Random;
 
@@ -21,9 +23,46 @@ fn bench_cards() {
     assert_eq!(eliminate(Steepest, 3, &links), steepest); // B4
     let links = [0, 1, 1, 0, 0, 1, 1, 0, 0];
     assert_eq!(eliminate(Reach, 3, &links), [1; 9]); // B5
-    for (second, wanted) in [(25534, 65534), (25535, NONE)] {
+    for (second, wanted) in [(25534, 65534), (25535, 65534)] {
         let links = [0, 40000, NONE, NONE, 0, second, NONE, NONE, 0];
         assert_eq!(eliminate(Distance, 3, &links)[2], wanted); // B6, B7
+        assert_eq!(eliminate(Distance, 3, &links)[6], NONE);
+    }
+    // Steepest keeps 65534 as an ordinary word.
+    let links = [0, 40000, NONE, NONE, 0, 65534, NONE, NONE, 0];
+    assert_eq!(eliminate(Steepest, 3, &links)[2], 65534);
+}
+
+/// What K4 says of distance, apart from any product: a pair's word is its length, held at 65534, and none where no way
+/// joins the two.
+#[test]
+fn distance_is_the_length_held_at_65534() {
+    let mut random = Random::new(3);
+    let mut met = 0;
+    for round in 0..3_000 {
+        let size = 1 + round % 12;
+        let kind = random.pick(&Kind::ALL);
+        let weights = table(&mut random, Distance, size, kind);
+        let lengths = lengths(size, &weights);
+        let wanted: Vec<u16> = lengths.iter().map(|&length| word_of(length)).collect();
+        assert_eq!(eliminate(Distance, size, &weights), wanted, "{weights:?}");
+        met += usize::from(has_far_and_none(&lengths));
+    }
+    assert!(met > 100, "far pairs beside none were met {met} times");
+}
+
+/// The product in the form of the benchmark's loops is the same.
+#[test]
+fn the_loops_product_is_the_same() {
+    let border = [
+        0, 1, 2, 255, 256, 25534, 25535, 25536, 32766, 32767, 32768, 65532, 65533, 65534, NONE,
+    ];
+    for x in border {
+        for y in 0..=NONE {
+            for (x, y) in [(x, y), (y, x)] {
+                assert_eq!(joined(x, y), Distance.product(x, y), "{x} {y}");
+            }
+        }
     }
 }
 

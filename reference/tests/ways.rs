@@ -72,11 +72,13 @@ fn wrong_lists_are_not() {
     assert_eq!(judge(&hall, 0, 0, &[0, 1, 0]), Err(Fault::Repeat));
     assert_eq!(judge(&hall, 0, 0, &[0, 0]), Err(Fault::Repeat));
     assert_eq!(judge(&hall, 0, 0, &[0]), Ok(()));
-    // B7: the way is there, but its word is held at none.
+    // B7: the way is there, and its word is held at 65534; back there is none.
     let links = vec![0, 40000, NONE, NONE, 0, 25535, NONE, NONE, 0];
     let hall = Hall::new(Distance, 3, links);
-    assert!(!hall.has_way(0, 2));
-    assert_eq!(refusal(&hall.question(0, 2), 3), 20);
+    assert_eq!(judge(&hall, 0, 2, &[0, 1, 2]), Ok(()));
+    assert_eq!(refusal(&hall.question(0, 2), 3), 0);
+    assert!(!hall.has_way(2, 0));
+    assert_eq!(refusal(&hall.question(2, 0), 3), 20);
 }
 
 /// The judge accepts a list if and only if it is one of those found by trying all ways.

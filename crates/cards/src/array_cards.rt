@@ -52,6 +52,19 @@ pub fn one_cell() -> bool {
     started & before & after
 }
 
+// The links of B7 through an array of order 3: far from 0 to 2, none back.
+pub fn far() -> bool {
+    let n = [3u16];
+    let w = [0u16, 40000, 65535, 65535, 0, 25535, 65535, 65535, 0];
+    let closed = [0u16, 40000, 65534, 65535, 0, 25535, 65535, 65535, 0];
+    let mut state = [9u16; 31];
+    let mut scratch = [9u16; 18];
+    let mut r = [9u16; 9];
+    let started = starts(1, 3, &n, &w, &mut state, 0);
+    let all = makes(&mut state, &n, &w, 16, &mut scratch, &mut r, 16, &closed);
+    started & all
+}
+
 // A run of jobs of sizes 3 and 2 after which job 1 has the given words, and job 0 its own.
 fn step(s: &mut [u16], allowance: u16, r: &mut [u16], made: u16, job1: [u16; 4]) -> bool {
     let n = [3u16, 2];

@@ -16,12 +16,17 @@ fn main() {
     tell(b"B4: ", table_cards::steepest());
     tell(b"B5: ", table_cards::reach());
     tell(b"B6: ", table_cards::longest());
-    tell(b"B7: ", table_cards::too_long());
+    tell(b"B7: ", table_cards::far());
     tell(b"B8: ", array_cards::one_cell());
     tell(b"B9: ", listing_card::listing());
     tell(b"B10: ", array_cards::two_jobs());
     tell(b"B11: ", limit_cards::all());
     tell(b"elimination, last pass: ", table_cards::last_pass());
+    tell(
+        b"elimination, 65534 in steepest: ",
+        table_cards::steepest_far(),
+    );
+    tell(b"array, far and none: ", array_cards::far());
     tell(b"array, third pass: ", array_cards::third_pass());
     tell(b"array, zero ticks: ", limit_cards::zero_ticks());
     tell(b"way, two of one word: ", way_cards::two_ways());

@@ -52,11 +52,20 @@ pub fn longest() -> bool {
     closes(1, 3, &links, &mut result, &closed)
 }
 
-pub fn too_long() -> bool {
+// A way of 65535 is held at 65534; where there is no way the word is none.
+pub fn far() -> bool {
     let links = [0u16, 40000, 65535, 65535, 0, 25535, 65535, 65535, 0];
-    let closed = [0u16, 40000, 65535, 65535, 0, 25535, 65535, 65535, 0];
+    let closed = [0u16, 40000, 65534, 65535, 0, 25535, 65535, 65535, 0];
     let mut result = [9u16; 9];
     closes(1, 3, &links, &mut result, &closed)
+}
+
+// 65534 is an ordinary word of steepest: the steepest link of the way over 1, which no link from 0 to 2 betters.
+pub fn steepest_far() -> bool {
+    let links = [0u16, 40000, 65535, 65535, 0, 65534, 65535, 65535, 0];
+    let closed = [0u16, 40000, 65534, 65535, 0, 65534, 65535, 65535, 0];
+    let mut result = [9u16; 9];
+    closes(2, 3, &links, &mut result, &closed)
 }
 
 // The way from 0 to 1 goes through the last point.

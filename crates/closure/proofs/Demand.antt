@@ -26,7 +26,7 @@ module _ (a : Algebra) (n : ℕ) (w : List ℕ) (words : (p : ℕ) → Word a (g
   unfolding closure
   closure-attained hi hj = attained (words-links a n w words) _ (omega arith) hi hj
 
-  closure-unbettered : {l : List ℕ} → Way n i j l → AsGood a (closure a n w i j) (wordOver a n w l)
+  pub closure-unbettered : {l : List ℕ} → Way n i j l → AsGood a (closure a n w i j) (wordOver a n w l)
   unfolding closure
   closure-unbettered way = unbettered (words-links a n w words) way
 

@@ -2,6 +2,7 @@ pub mod Accepted
 pub mod Demand
 pub mod Equations
 pub mod Holds
+pub mod Lengths
 pub mod Links
 pub mod Passes
 pub mod Simple

@@ -1,3 +1,4 @@
 -- What is claimed of the elimination.
 pub mod Refusals
 pub mod Demand
+pub mod Lengths

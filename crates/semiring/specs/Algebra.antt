@@ -2,6 +2,8 @@
 use Prim.Native.Nat.{ℕ, _+_, _≤_, min, max}
 use mathlib.Core.Path.{_≡_}
 use mathlib.Core.Logic.{_≢_}
+use mathlib.Core.Bool.{cond, _||_}
+use lib.Dec.{eqb}
 use Rattle.semiring.specs.declared.Algebra.{Algebra}
 use Rattle.semiring.specs.declared.Algebra.the-variants.{Reach, Distance, Steepest}
 
@@ -30,10 +32,15 @@ sumOf Reach x y = max x y
 sumOf Distance x y = min x y
 sumOf Steepest x y = min x y
 
--- "Product": smaller; addition, held at 65535; larger.
+-- K4: "held at 65534, which means 65534 or more"
+abbrev pub far : ℕ
+far = 65534
+
+-- "Product": smaller; addition; larger. K4: "In distance, the product of two words that aren't none is now held at 65534 ..;
+-- none comes only from none."
 abbrev pub productOf : Algebra → ℕ → ℕ → ℕ
 productOf Reach x y = min x y
-productOf Distance x y = min (x + y) 65535
+productOf Distance x y = cond (eqb x (noneOf Distance) || eqb y (noneOf Distance)) (noneOf Distance) (min (x + y) far)
 productOf Steepest x y = max x y
 
 -- "A word betters another if it differs from it and is their sum."

@@ -14,12 +14,12 @@ use Rattle.job_text.specs.Steps.{step}
 use Rattle.job_text.specs.Reading.{follow, readingOf}
 use Rattle.text.specs.Joined.{joined}
 use Rattle.sheet.specs.Lines.{sheet}
-use Rattle.sheet.specs.claims.Cards.{links3, reach3, long3, last3, BenchCards}
+use Rattle.sheet.specs.claims.Cards.{links3, reach3, long3, steep3, last3, BenchCards}
 
 pub cards : BenchCards
 unfolding listOf any passes closure eliminated offset cellAfter planesAfter emitted emittedRows ticked ticks ranOn refusedRun ranBy runs cut
     lines placed parts digits decimal name tokenOf words opening headOf formOf step follow readingOf joined numeral sheet links3 reach3
-    long3 last3
+    long3 steep3 last3
 cards = record {
   B1 = refl;
   B2 = refl;
@@ -28,6 +28,9 @@ cards = record {
   B5 = refl;
   B6 = refl;
   B7 = refl;
+  none-back = refl;
+  steepest-65534 = refl;
+  steepest-65533 = refl;
   last-pass = refl;
   B8-before = refl;
   B8-after = refl;

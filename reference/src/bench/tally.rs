@@ -1,7 +1,9 @@
 //! What a comparison of texts has met, so that it cannot pass with one kind of text alone.
 
 use crate::job_text::{JobList, Refusal};
-use crate::texts::lists::{has_job_below_order, has_same_hall, is_largest, neighbours_differ};
+use crate::texts::lists::{
+    has_far_and_none, has_job_below_order, has_same_hall, is_largest, neighbours_differ,
+};
 
 /// The refusals that a text can meet through the program.
 pub const NUMBERS: [u16; 9] = [5, 6, 7, 8, 13, 14, 15, 16, 17];
@@ -14,6 +16,7 @@ pub struct Tally {
     neighbours_differ: usize,
     same_hall: usize,
     largest: usize,
+    far_and_none: usize,
     long_sheets: usize,
 }
 
@@ -29,6 +32,7 @@ impl Tally {
                 self.neighbours_differ += usize::from(neighbours_differ(list));
                 self.same_hall += usize::from(has_same_hall(list));
                 self.largest += usize::from(is_largest(list));
+                self.far_and_none += usize::from(has_far_and_none(list));
             }
             Err(refusal) => self.refused[usize::from(refusal.number)] += 1,
         }
@@ -55,6 +59,7 @@ impl Tally {
         rows.push(row("neighbours of different sizes", differ, 2_000));
         rows.push(row("one hall at two sizes", same, 1_000));
         rows.push(row("order 32 with 16 jobs", self.largest, 200));
+        rows.push(row("a far pair and one of none", self.far_and_none, 200));
         let kind = format!("sheets over {LONG_SHEET} bytes");
         rows.push(row(&kind, self.long_sheets, 90));
         rows

@@ -5,6 +5,7 @@ use reference::algebra::Algebra;
 use reference::elimination::damages::{damaged_call, Call};
 use reference::elimination::eliminate;
 use reference::elimination::host_call::{self, bytes_of, words_of};
+use reference::elimination::lengths::{has_far_and_none, lengths};
 use reference::elimination::refusal::{refusal, NUMBERS};
 use reference::elimination::tables::{table, Kind};
 use reference::random::Random;
@@ -14,6 +15,8 @@ use std::process::exit;
 const SEED: u64 = 0x5EED_0F0A_7AB1_E001;
 /// Beside the sweep over all sizes.
 const MORE_TABLES: usize = 30_000;
+/// Of these, in distance: some pair is far, and another has no way.
+const FAR_AND_NONE: usize = 300;
 /// For each refusal, calls with that damage alone; else the early refusals would crowd out the late ones.
 const SINGLE_DAMAGES: usize = 2_000;
 /// For each set of two to five damages.
@@ -40,7 +43,8 @@ fn main() {
     );
 }
 
-/// Every size with every algebra and kind of words, then more tables that are mostly small. Counts them by algebra.
+/// Every size with every algebra and kind of words, all pairs of border words joined, then more tables that are mostly
+/// small. Counts them by algebra.
 fn compare_tables(random: &mut Random) -> [usize; 3] {
     let mut counts = [0; 3];
     for size in 1..=MAX_SIZE {
@@ -51,20 +55,57 @@ fn compare_tables(random: &mut Random) -> [usize; 3] {
             }
         }
     }
+    for algebra in [Algebra::Distance, Algebra::Steepest] {
+        counts[algebra.number() as usize] += compare_joined(random, algebra);
+    }
+    let mut far_and_none = 0;
     for _ in 0..MORE_TABLES {
         let largest = if random.one_in(16) { MAX_SIZE } else { 12 };
         let size = random.between(1, largest);
         let algebra = random.pick(&Algebra::ALL);
         let kind = random.pick(&Kind::ALL);
-        compare_table(random, algebra, size, kind);
+        let weights = compare_table(random, algebra, size, kind);
         counts[algebra.number() as usize] += 1;
+        // In larger tables the lengths take long to find.
+        let found = algebra == Algebra::Distance && size <= 12;
+        far_and_none += usize::from(found && has_far_and_none(&lengths(size, &weights)));
     }
+    println!("tables with a far pair and one of none: {far_and_none}");
+    assert!(far_and_none >= FAR_AND_NONE, "too few");
     counts
 }
 
-fn compare_table(random: &mut Random, algebra: Algebra, size: usize, kind: Kind) {
+/// Two links in a row, of all pairs of words near the ends of 16 bits and near sums of 65534. Returns how many.
+fn compare_joined(random: &mut Random, algebra: Algebra) -> usize {
+    let none = algebra.none();
+    let words: Vec<u16> = [0, 255, 25532, 32765, 40000, 65531]
+        .iter()
+        .flat_map(|&first| first..=first + 4)
+        .collect();
+    for &x in &words {
+        for &y in &words {
+            let links = vec![0, x, none, none, 0, y, none, none, 0];
+            compare_weights(random, algebra, 3, &links, "two links");
+        }
+    }
+    words.len() * words.len()
+}
+
+/// Returns the weights.
+fn compare_table(random: &mut Random, algebra: Algebra, size: usize, kind: Kind) -> Vec<u16> {
     let weights = table(random, algebra, size, kind);
-    let bytes = bytes_of(&weights);
+    compare_weights(random, algebra, size, &weights, &format!("{kind:?}"));
+    weights
+}
+
+fn compare_weights(
+    random: &mut Random,
+    algebra: Algebra,
+    size: usize,
+    weights: &[u16],
+    what: &str,
+) {
+    let bytes = bytes_of(weights);
     let call = Call {
         algebra: algebra.number(),
         size,
@@ -73,14 +114,14 @@ fn compare_table(random: &mut Random, algebra: Algebra, size: usize, kind: Kind)
     };
     let (number, _, result) = outcome(random, &call);
     if number != 0 {
-        fail(&call, &format!("{kind:?}: refused with {number}"));
+        fail(&call, &format!("{what}: refused with {number}"));
     }
-    let wanted = eliminate(algebra, size, &weights);
+    let wanted = eliminate(algebra, size, weights);
     let got = words_of(&result);
     if let Some(at) = (0..size * size).find(|&at| got[at] != wanted[at]) {
         let (i, j) = (at / size, at % size);
         let (got, wanted) = (got[at], wanted[at]);
-        let what = format!("{kind:?}: entry ({i}, {j}) is {got}, wanted {wanted}");
+        let what = format!("{what}: entry ({i}, {j}) is {got}, wanted {wanted}");
         fail(&call, &what);
     }
 }

@@ -155,7 +155,10 @@ impl Comparison {
             fail(&asked, hall.size, &what);
         }
         match outcome.and_then(|outcome| outcome.check_accepted(hall, from, to)) {
-            Ok(length) => self.tally.count_way(hall, from, to, length),
+            Ok(length) => {
+                self.tally.count_way(hall, from, to, length);
+                self.tally.count_length(hall, &own);
+            }
             Err(what) => fail(&asked, hall.size, &what),
         }
     }

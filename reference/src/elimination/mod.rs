@@ -2,6 +2,7 @@
 
 pub mod damages;
 pub mod host_call;
+pub mod lengths;
 pub mod refusal;
 pub mod rust_loop;
 pub mod sse2;

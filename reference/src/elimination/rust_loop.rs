@@ -30,13 +30,20 @@ impl RustLoop {
         // One match here, and none in the loops: each arm is compiled for its own sum and product.
         match algebra {
             Algebra::Reach => close(table, via, u16::max, u16::min),
-            Algebra::Distance => close(table, via, u16::min, u16::saturating_add),
+            Algebra::Distance => close(table, via, u16::min, joined),
             Algebra::Steepest => close(table, via, u16::min, u16::max),
         }
         for (word, pair) in table.iter().zip(result.chunks_exact_mut(2)) {
             pair.copy_from_slice(&word.to_le_bytes());
         }
     }
+}
+
+/// Distance's product, in the form that was fastest where x is fixed: the addition of one more than x is held at 65535, so
+/// that without the one it is held at 65534. Where x is none, it stays none; the held sum is not below y, unless y is none.
+pub fn joined(x: u16, y: u16) -> u16 {
+    let step = u16::from(x != Algebra::Distance.none());
+    ((x + step).saturating_add(y) - step).max(y)
 }
 
 /// In place: step k leaves row k and column k as they are, since entry (k, k) is the own word. Row k is copied to

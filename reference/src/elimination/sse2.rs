@@ -9,11 +9,14 @@ use std::arch::x86_64::*;
 /// Words in a register.
 const LANES: usize = 8;
 
-/// An algebra's sum and product on registers; the algebra itself serves the words of a row's rest.
+/// An algebra's sum on registers, and its product of one word, which is made ready once for a row, with a register; the
+/// algebra itself serves the words of a row's rest.
 trait Lanes {
     const ALGEBRA: Algebra;
+    type Ready: Copy;
+    fn ready(x: u16) -> Self::Ready;
     fn sum(a: __m128i, b: __m128i) -> __m128i;
-    fn product(a: __m128i, b: __m128i) -> __m128i;
+    fn product(x: Self::Ready, b: __m128i) -> __m128i;
 }
 
 struct Reach;
@@ -22,39 +25,65 @@ struct Steepest;
 
 impl Lanes for Reach {
     const ALGEBRA: Algebra = Algebra::Reach;
+    type Ready = __m128i;
+    #[inline(always)]
+    fn ready(x: u16) -> __m128i {
+        everywhere(x)
+    }
     #[inline(always)]
     fn sum(a: __m128i, b: __m128i) -> __m128i {
         larger(a, b)
     }
     #[inline(always)]
-    fn product(a: __m128i, b: __m128i) -> __m128i {
-        smaller(a, b)
+    fn product(x: __m128i, b: __m128i) -> __m128i {
+        smaller(x, b)
     }
 }
 
 impl Lanes for Distance {
     const ALGEBRA: Algebra = Algebra::Distance;
+    /// One more than x and 1; none, which stays none, and 0.
+    type Ready = (__m128i, __m128i);
+    #[inline(always)]
+    fn ready(x: u16) -> Self::Ready {
+        let step = u16::from(x != Algebra::Distance.none());
+        (everywhere(x + step), everywhere(step))
+    }
     #[inline(always)]
     fn sum(a: __m128i, b: __m128i) -> __m128i {
         smaller(a, b)
     }
     #[inline(always)]
-    fn product(a: __m128i, b: __m128i) -> __m128i {
+    fn product((more, step): Self::Ready, b: __m128i) -> __m128i {
+        // The addition of one more than x is held at 65535, so that without the one it is held at 65534. The held sum
+        // is not below b, unless b is none.
         // SAFETY: every x86-64 processor has SSE2.
-        unsafe { _mm_adds_epu16(a, b) }
+        let held = unsafe { _mm_sub_epi16(_mm_adds_epu16(more, b), step) };
+        larger(held, b)
     }
 }
 
 impl Lanes for Steepest {
     const ALGEBRA: Algebra = Algebra::Steepest;
+    type Ready = __m128i;
+    #[inline(always)]
+    fn ready(x: u16) -> __m128i {
+        everywhere(x)
+    }
     #[inline(always)]
     fn sum(a: __m128i, b: __m128i) -> __m128i {
         smaller(a, b)
     }
     #[inline(always)]
-    fn product(a: __m128i, b: __m128i) -> __m128i {
-        larger(a, b)
+    fn product(x: __m128i, b: __m128i) -> __m128i {
+        larger(x, b)
     }
+}
+
+#[inline(always)]
+fn everywhere(x: u16) -> __m128i {
+    // SAFETY: every x86-64 processor has SSE2.
+    unsafe { _mm_set1_epi16(x as i16) }
 }
 
 /// SSE2 compares no unsigned words, but subtracts them with saturation.
@@ -99,16 +128,16 @@ fn close<L: Lanes>(size: usize, table: &mut [u8]) {
 /// Each entry of the row becomes the sum of itself and the product of `x` and its entry of `via`.
 #[inline(always)]
 fn improve<L: Lanes>(row: &mut [u8], x: u16, via: &[u8]) {
+    let ready = L::ready(x);
     let mut entries = row.chunks_exact_mut(2 * LANES);
     let mut links = via.chunks_exact(2 * LANES);
     for (entry, link) in entries.by_ref().zip(links.by_ref()) {
         // SAFETY: every x86-64 processor has SSE2, and both chunks have the 16 bytes of a register, which may lie at
         // any address.
         unsafe {
-            let xs = _mm_set1_epi16(x as i16);
             let old = _mm_loadu_si128(entry.as_ptr().cast());
             let link = _mm_loadu_si128(link.as_ptr().cast());
-            let new = L::sum(old, L::product(xs, link));
+            let new = L::sum(old, L::product(ready, link));
             _mm_storeu_si128(entry.as_mut_ptr().cast(), new);
         }
     }

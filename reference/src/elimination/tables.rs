@@ -11,16 +11,19 @@ pub enum Kind {
     SmallWords,
     /// Words that wrap in 16 bits where two are added, and some that just do not.
     NearTop,
+    /// About two links a point, of which two to seven in a row are held: far pairs beside pairs with none.
+    LongLinks,
     AllNone,
     AllZero,
     FullRange,
 }
 
 impl Kind {
-    pub const ALL: [Kind; 6] = [
+    pub const ALL: [Kind; 7] = [
         Kind::Sparse,
         Kind::SmallWords,
         Kind::NearTop,
+        Kind::LongLinks,
         Kind::AllNone,
         Kind::AllZero,
         Kind::FullRange,
@@ -50,9 +53,10 @@ fn word(random: &mut Random, algebra: Algebra, size: usize, kind: Kind) -> u16 {
         (Kind::AllNone, _) => algebra.none(),
         (Kind::AllZero, _) => 0,
         (Kind::FullRange, _) => any_word(random, algebra),
-        (Kind::Sparse, _) if !random.one_in(size.div_ceil(2)) => algebra.none(),
-        (Kind::Sparse, Algebra::Reach) => 1,
+        (Kind::Sparse | Kind::LongLinks, _) if !random.one_in(size.div_ceil(2)) => algebra.none(),
+        (Kind::Sparse | Kind::LongLinks, Algebra::Reach) => 1,
         (Kind::Sparse, _) => random.below(4000) as u16,
+        (Kind::LongLinks, _) => random.between(10_000, 40_000) as u16,
         (Kind::SmallWords, Algebra::Reach) => u16::from(random.one_in(4)),
         (Kind::SmallWords, _) => random.below(20) as u16,
         (Kind::NearTop, Algebra::Reach) => u16::from(!random.one_in(4)),

@@ -2,6 +2,7 @@
 //! that the compiler may turn into vector code. As in the calls Start and Run, the jobs are lent to each run anew.
 
 use crate::algebra::Algebra;
+use crate::elimination::rust_loop::joined;
 use std::ops::Range;
 
 pub struct RowArray {
@@ -83,7 +84,7 @@ impl RowArray {
         // One match here, and none in the loops: each arm is compiled for its own sum and product.
         match self.algebra {
             Algebra::Reach => self.ticks(ticks, lent, results, u16::max, u16::min),
-            Algebra::Distance => self.ticks(ticks, lent, results, u16::min, u16::saturating_add),
+            Algebra::Distance => self.ticks(ticks, lent, results, u16::min, joined),
             Algebra::Steepest => self.ticks(ticks, lent, results, u16::min, u16::max),
         }
         ticks

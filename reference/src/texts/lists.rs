@@ -1,6 +1,7 @@
 //! Random lists of jobs, with sizes and tables that meet different ends of the array.
 
 use crate::algebra::Algebra;
+use crate::elimination::lengths::{self, lengths};
 use crate::elimination::tables::{table, Kind};
 use crate::job_text::{JobList, MAX_JOBS, MAX_ORDER};
 use crate::random::Random;
@@ -135,6 +136,15 @@ fn next_size(random: &mut Random, order: usize, sizes: Sizes, before: usize) -> 
 fn first_points(hall: &[u16], points: usize, size: usize) -> Vec<u16> {
     let rows = hall.chunks_exact(points).take(size);
     rows.flat_map(|row| &row[..size]).copied().collect()
+}
+
+/// Whether some job in distance has a pair of points that is far, and one without a way.
+pub fn has_far_and_none(list: &JobList) -> bool {
+    list.algebra == Algebra::Distance
+        && list
+            .jobs()
+            .iter()
+            .any(|(size, words)| lengths::has_far_and_none(&lengths(*size, words)))
 }
 
 /// Whether the list has the largest order and the largest number of jobs.

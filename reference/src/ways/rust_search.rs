@@ -2,7 +2,7 @@
 //! the way's end, in safe Rust.
 
 use crate::algebra::Algebra;
-use crate::elimination::rust_loop::close;
+use crate::elimination::rust_loop::{close, joined};
 use crate::ways::Question;
 
 /// Memory that is kept between calls, so that no call pays for allocating it.
@@ -31,7 +31,7 @@ impl RustSearch {
         let algebra = Algebra::ALL[asked.algebra as usize];
         match algebra {
             Algebra::Reach => self.find(asked, list, algebra, u16::max, u16::min),
-            Algebra::Distance => self.find(asked, list, algebra, u16::min, u16::saturating_add),
+            Algebra::Distance => self.find(asked, list, algebra, u16::min, joined),
             Algebra::Steepest => self.find(asked, list, algebra, u16::min, u16::max),
         }
     }

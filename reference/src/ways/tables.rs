@@ -23,10 +23,11 @@ pub enum Kind {
 }
 
 impl Kind {
-    pub const ALL: [Kind; 12] = [
+    pub const ALL: [Kind; 13] = [
         Kind::Words(Words::Sparse),
         Kind::Words(Words::SmallWords),
         Kind::Words(Words::NearTop),
+        Kind::Words(Words::LongLinks),
         Kind::Words(Words::AllNone),
         Kind::Words(Words::AllZero),
         Kind::Words(Words::FullRange),

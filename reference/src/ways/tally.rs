@@ -38,6 +38,8 @@ pub struct Tally {
     not_direct: usize,
     one_way: usize,
     several_ways: usize,
+    /// Longer than their word says.
+    far: usize,
     no_way: usize,
     refused: [usize; 21],
     /// Calls with this one damage alone.
@@ -66,6 +68,13 @@ impl Tally {
                 _ => self.several_ways += 1,
             }
         }
+    }
+
+    /// The list is a right way.
+    pub fn count_length(&mut self, hall: &Hall, list: &[u16]) {
+        let link = |pair: &[u16]| u32::from(hall.link(pair[0].into(), pair[1].into()));
+        let length: u32 = list.windows(2).map(link).sum();
+        self.far += usize::from(hall.algebra == Algebra::Distance && length > 65534);
     }
 
     pub fn count_no_way(&mut self) {
@@ -114,6 +123,7 @@ impl Tally {
         rows.push(row("entries with one way, to 5 points", self.one_way));
         rows.push(row("entries with several, to 5 points", self.several_ways));
         rows.push(row("entries of none, in right tables", self.no_way));
+        rows.push(("ways of more than 65534".to_string(), vec![self.far], 5_000));
         rows
     }
 

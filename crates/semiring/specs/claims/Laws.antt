@@ -1,7 +1,7 @@
 -- The laws of document 01, "Algebras", in one record, and the statement that all three algebras have them.
 use Prim.Native.Nat.{ℕ}
 use mathlib.Core.Path.{_≡_}
-use mathlib.Core.Logic.{_⊎_}
+use mathlib.Core.Logic.{_⊎_, _≢_}
 use Rattle.semiring.specs.Algebra.{Word, noneOf, ownOf, sumOf, productOf}
 use Rattle.semiring.specs.declared.Algebra.{Algebra}
 
@@ -29,6 +29,8 @@ module _ (W : ℕ → Type 0) (_⊕_ _⊗_ : ℕ → ℕ → ℕ) (none own : �
     pub none-product : {x : ℕ} → W x → none ⊗ x ≡ none
     pub product-own : {x : ℕ} → W x → x ⊗ own ≡ x
     pub own-product : {x : ℕ} → W x → own ⊗ x ≡ x
+    -- K4: "none comes only from none"
+    pub product-not-none : {x y : ℕ} → W x → W y → x ≢ none → y ≢ none → x ⊗ y ≢ none
 
 -- "The laws .. are shown over all three together."
 abbrev pub Laws : Type 0

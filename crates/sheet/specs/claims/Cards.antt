@@ -1,4 +1,5 @@
--- Document 01, "Bench cards": B1 to B9 in one statement, and a card more for the elimination's last pass and for a refusal's line.
+-- Document 01, "Bench cards": B1 to B9 in one statement, with K4's B7, and cards more: the elimination's last pass, far and none, a
+-- refusal's line.
 use Prim.Native.Nat.{ℕ}
 use mathlib.Core.Path.{_≡_}
 use mathlib.Core.List.{List, [], _∷_}
@@ -26,6 +27,10 @@ reach3 = 0 ∷ 1 ∷ 1 ∷ 0 ∷ 0 ∷ 1 ∷ 1 ∷ 0 ∷ 0 ∷ []
 unfoldable pub long3 : ℕ → List ℕ
 long3 x = 0 ∷ 40000 ∷ none ∷ none ∷ 0 ∷ x ∷ none ∷ none ∷ 0 ∷ []
 
+-- 0→1 of 40000, 1→2 of the one given word and 0→2 of the other
+unfoldable pub steep3 : ℕ → ℕ → List ℕ
+steep3 x y = 0 ∷ 40000 ∷ y ∷ none ∷ 0 ∷ x ∷ none ∷ none ∷ 0 ∷ []
+
 -- 0→1 only through the last point, 2
 unfoldable pub last3 : List ℕ
 last3 = 0 ∷ 9 ∷ 1 ∷ none ∷ 0 ∷ none ∷ none ∷ 2 ∷ 0 ∷ []
@@ -43,7 +48,12 @@ pub record BenchCards : Type 0 where
   pub B4 : eliminated Steepest 3 links3 ≡ 0 ∷ 4 ∷ 4 ∷ 3 ∷ 0 ∷ 3 ∷ 1 ∷ 4 ∷ 0 ∷ []
   pub B5 : eliminated Reach 3 reach3 ≡ 1 ∷ 1 ∷ 1 ∷ 1 ∷ 1 ∷ 1 ∷ 1 ∷ 1 ∷ 1 ∷ []
   pub B6 : closure Distance 3 (long3 25534) 0 2 ≡ 65534
-  pub B7 : closure Distance 3 (long3 25535) 0 2 ≡ none
+  -- K4: "Card B7 becomes 65534"; back there is still no way
+  pub B7 : closure Distance 3 (long3 25535) 0 2 ≡ 65534
+  pub none-back : closure Distance 3 (long3 25535) 2 0 ≡ none
+  -- K4: "Steepest keeps 65534 as an ordinary word": the steepest link of its way, and bettered by 65533
+  pub steepest-65534 : closure Steepest 3 (steep3 65534 none) 0 2 ≡ 65534
+  pub steepest-65533 : closure Steepest 3 (steep3 65533 65534) 0 2 ≡ 65533
   pub last-pass : closure Distance 3 last3 0 1 ≡ 3
   -- "N = 1, one job: its word leaves on tick 3, 4 ticks in all"
   pub B8-before : onePoint 3 .results ≡ 9 ∷ []
