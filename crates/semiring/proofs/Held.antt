@@ -2,11 +2,9 @@
 -- themselves: of these only none is above 65534. From the formula arithmetic finds the laws.
 use Prim.Native.Nat.{ℕ, _+_, _-_, _≤_, _<_, min, max}
 use native.Mathlib.Omega.{arith}
-use native.Mathlib.Decide.{decLe, decLt}
+use native.Mathlib.Decide.{decLe, decLt, ℕ-discrete}
 use mathlib.Core.Path.{_≡_, refl, sym, _∙_}
 use mathlib.Core.Logic.{_≢_}
-use mathlib.Core.Bool.{true, false, cond, _||_}
-use lib.Dec.{eqb}
 use borrow.Author.Tests.{ne-eqb}
 use Rattle.semiring.specs.Algebra.{Word, noneOf, far, productOf}
 use Rattle.semiring.specs.declared.Algebra.the-variants.{Distance}
@@ -16,7 +14,11 @@ none-first : (y : ℕ) → productOf Distance 65535 y ≡ 65535
 none-first y = refl
 
 none-second : (x : ℕ) → productOf Distance x 65535 ≡ 65535
-none-second x = elim (eqb x 65535) as (λ b. cond (b || true) 65535 (min (x + 65535) far) ≡ 65535) [ true ↦ refl | false ↦ refl ]
+none-second x = go (ℕ-discrete x 65535)
+  where
+    go : Dec (x ≡ 65535) → productOf Distance x 65535 ≡ 65535
+    go (yes e) = rw e
+    go (no h) = rw (ne-eqb x 65535 h)
 
 pub sum-held : {x y : ℕ} → x ≢ noneOf Distance → y ≢ noneOf Distance → productOf Distance x y ≡ min (x + y) far
 sum-held {x} {y} h k = rw (ne-eqb x 65535 h, ne-eqb y 65535 k)

@@ -27,7 +27,7 @@ impl Distance {
     }
 
     // One more than x is added to y and held at 65535; without that one the sum is held at 65534. As x none gets no more and stays
-    // none; as y it is above every held sum. In this form loops over rows become vector code; with two tests on none they do not.
+    // none; as y it is above every held sum. With two tests on none in place of it, loops over rows take twice the time.
     pub fn product(x: u16, y: u16) -> u16
         ensures { λ r. ⌜ r ≡ productOf Algebra.Distance x y ⌝ }
     {
