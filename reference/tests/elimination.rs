@@ -4,9 +4,11 @@
 use reference::algebra::Algebra::{self, Distance, Reach, Steepest};
 use reference::elimination::damages::damaged_call;
 use reference::elimination::eliminate;
+use reference::elimination::host_call::{bytes_of, words_of};
 use reference::elimination::lengths::{has_far_and_none, lengths, word_of};
 use reference::elimination::refusal::{refusal, NUMBERS};
-use reference::elimination::rust_loop::joined;
+use reference::elimination::rust_loop::{joined, RustLoop};
+use reference::elimination::sse2;
 use reference::elimination::tables::{table, Kind};
 use reference::random::Random;
 
@@ -51,13 +53,32 @@ fn distance_is_the_length_held_at_65534() {
     assert!(met > 100, "far pairs beside none were met {met} times");
 }
 
+/// The benchmark's contenders close tables of every kind alike, and not only those that they are timed on.
+#[test]
+fn the_contenders_close_alike() {
+    let mut random = Random::new(4);
+    for size in (1..=34).chain([64, 128]) {
+        for algebra in Algebra::ALL {
+            for kind in Kind::ALL {
+                let weights = table(&mut random, algebra, size, kind);
+                let (bytes, closed) = (bytes_of(&weights), eliminate(algebra, size, &weights));
+                let mut result = vec![0; bytes.len()];
+                RustLoop::new(size).eliminate(algebra, size, &bytes, &mut result);
+                assert_eq!(words_of(&result), closed, "{algebra:?} {weights:?}");
+                sse2::eliminate(algebra, size, &bytes, &mut result);
+                assert_eq!(words_of(&result), closed, "{algebra:?} {weights:?}");
+            }
+        }
+    }
+}
+
 /// The product in the form of the benchmark's loops is the same.
 #[test]
 fn the_loops_product_is_the_same() {
     let border = [
         0, 1, 2, 255, 256, 25534, 25535, 25536, 32766, 32767, 32768, 65532, 65533, 65534, NONE,
     ];
-    for x in border {
+    for x in border.into_iter().chain((0..NONE).step_by(251)) {
         for y in 0..=NONE {
             for (x, y) in [(x, y), (y, x)] {
                 assert_eq!(joined(x, y), Distance.product(x, y), "{x} {y}");

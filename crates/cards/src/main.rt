@@ -24,7 +24,7 @@ fn main() {
     tell(b"elimination, last pass: ", table_cards::last_pass());
     tell(
         b"elimination, 65534 in steepest: ",
-        table_cards::steepest_far(),
+        table_cards::steepest_65534(),
     );
     tell(b"array, far and none: ", array_cards::far());
     tell(b"array, third pass: ", array_cards::third_pass());

@@ -60,8 +60,8 @@ pub fn far() -> bool {
     closes(1, 3, &links, &mut result, &closed)
 }
 
-// 65534 is an ordinary word of steepest: the steepest link of the way over 1, which no link from 0 to 2 betters.
-pub fn steepest_far() -> bool {
+// 65534 is an ordinary word of steepest. The way over 1 has it as its steepest link; from 0 to 2 there is no link.
+pub fn steepest_65534() -> bool {
     let links = [0u16, 40000, 65535, 65535, 0, 65534, 65535, 65535, 0];
     let closed = [0u16, 40000, 65534, 65535, 0, 65534, 65535, 65535, 0];
     let mut result = [9u16; 9];

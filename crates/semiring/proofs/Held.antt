@@ -47,12 +47,12 @@ none-joined : {x : ℕ} → Word Distance x → joined 65535 x ≡ 65535
 none-joined {x} v = joined-comm 65535 x ∙ joined-none v
 
 -- of two words that aren't none
-both : {x y : ℕ} → x < 65535 → y < 65535 → joined x y ≡ min (x + y) far
+both-below : {x y : ℕ} → x < 65535 → y < 65535 → joined x y ≡ min (x + y) far
 unfolding joined
-both h k = omega arith
+both-below h k = omega arith
 
 pub joined-below : {x y : ℕ} → x < 65535 → y < 65535 → joined x y < 65535
-joined-below h k = omega (arith, both h k)
+joined-below h k = omega (arith, both-below h k)
 
 joined-more : (x y z : ℕ) → y ≤ z → joined x y ≤ joined x z
 unfolding joined
@@ -80,7 +80,7 @@ is-joined {x} {y} v w = go (decLt x 65535) (decLt y 65535)
   where
     go : Dec (x < 65535) → Dec (y < 65535) → productOf Distance x y ≡ joined x y
     go (yes h) (yes k) =
-        sum-held (λ (e : x ≡ 65535). omega arith) (λ (e : y ≡ 65535). omega arith) ∙ sym (both h k)
+        sum-held (λ (e : x ≡ 65535). omega arith) (λ (e : y ≡ 65535). omega arith) ∙ sym (both-below h k)
     go (yes h) (no k) = rw (none-of w k) (none-second x ∙ sym (joined-none v))
     go (no h) k = rw (none-of v h) (none-first y ∙ sym (none-joined w))
 
@@ -89,7 +89,7 @@ joined-assoc {x} {y} {z} u v w = go (decLt x 65535) (decLt y 65535) (decLt z 655
   where
     go : Dec (x < 65535) → Dec (y < 65535) → Dec (z < 65535) → joined (joined x y) z ≡ joined x (joined y z)
     go (yes h) (yes k) (yes l) =
-        rw (both (joined-below h k) l, both h (joined-below k l), both h k, both k l) (omega arith)
+        rw (both-below (joined-below h k) l, both-below h (joined-below k l), both-below h k, both-below k l) (omega arith)
     go (no h) k l = rw (none-of u h, none-joined v, none-joined w, none-joined (joined-word v w))
     go (yes h) (no k) l = rw (none-of v k, joined-none u, none-joined w, joined-none u)
     go (yes h) (yes k) (no l) = rw (none-of w l, joined-none v, joined-none (joined-word u v), joined-none u)
@@ -113,7 +113,7 @@ one-more {x} {y} {more} v w e = is-joined v w ∙ go (decLt x 65535)
         rw (none-of v h, m, none-joined w) (omega arith)
 
 -- Of y and the sum that is held so, the larger is the product.
-module _ {x y more long : ℕ} (e : more ≡ min (x + 1) 65535) (f : long ≡ min (more + y) 65535) where
+module _ (x y more long : ℕ) (e : more ≡ min (x + 1) 65535) (f : long ≡ min (more + y) 65535) where
   pub larger-word : long - (more - x) < y → Word Distance x → Word Distance y → y ≡ productOf Distance x y
   larger-word h v w = sym (one-more v w e ∙ rw (sym f) (omega arith))
 

@@ -1,4 +1,4 @@
--- The table of document 01, "Algebras": for each algebra its words, its none and own word, its sum and its product.
+-- The table of document 01, "Algebras", with K4's product: for each algebra its words, its none and own word, its sum and its product.
 use Prim.Native.Nat.{ℕ, _+_, _≤_, min, max}
 use mathlib.Core.Path.{_≡_}
 use mathlib.Core.Logic.{_≢_}

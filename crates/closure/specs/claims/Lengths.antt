@@ -1,5 +1,6 @@
 -- K4: "In distance, the product of two words that aren't none is now held at 65534, which means 65534 or more; none comes only from
--- none." So what a closed table of distance says: the length of a shortest way, held at 65534, and none only where no way is.
+-- none." So a closed table of distance says: the length of a shortest way, held at 65534, and none only where every way has a link of
+-- none.
 use Prim.Native.Nat.{ℕ, _+_, _≤_, _<_, min}
 use mathlib.Core.Path.{_≡_}
 use mathlib.Core.Logic.{_≢_}
@@ -12,21 +13,23 @@ use Rattle.closure.specs.Elimination.{closure}
 use Rattle.closure.specs.Ways.{Way}
 use Rattle.closure.specs.Tests.{eliminationTests}
 
--- The links of a list of points: none of them is none, and their lengths added, with nothing held.
-unfoldable pub Linked : Table → List ℕ → Type 0
-Linked link [] = Unit
-Linked link (i ∷ []) = Unit
-Linked link (i ∷ k ∷ l) = (link i k ≢ noneOf Distance) × Linked link (k ∷ l)
+-- No link of the list is the none word.
+unfoldable pub AllLinked : Table → List ℕ → Type 0
+AllLinked link [] = Unit
+AllLinked link (i ∷ []) = Unit
+AllLinked link (i ∷ k ∷ l) = (link i k ≢ noneOf Distance) × AllLinked link (k ∷ l)
 
+-- The lengths of its links added, with nothing held.
 unfoldable pub lengthOf : Table → List ℕ → ℕ
 lengthOf link [] = 0
 lengthOf link (i ∷ []) = 0
 lengthOf link (i ∷ k ∷ l) = link i k + lengthOf link (k ∷ l)
 
--- x is the length of a shortest way from i to j, held at 65534, or none, and then no way is there.
+-- x is the length of a shortest way from i to j, held at 65534, or none, and then every way has a link of none.
 pub record Shortest (n : ℕ) (link : Table) (i j x : ℕ) : Type 0 where
-  pub attained : x ≢ noneOf Distance → (l : List ℕ) × Way n i j l × Linked link l × (x ≡ min (lengthOf link l) far)
-  pub least : (l : List ℕ) → Way n i j l → Linked link l → x ≤ min (lengthOf link l) far
+  pub attained : x ≢ noneOf Distance → (l : List ℕ) × Way n i j l × AllLinked link l × (x ≡ min (lengthOf link l) far)
+  pub least : (l : List ℕ) → Way n i j l → AllLinked link l → x ≤ min (lengthOf link l) far
+  pub none-only : x ≡ noneOf Distance → (l : List ℕ) → Way n i j l → AllLinked link l → ⊥
 
 abbrev pub Lengths : Type 0
 Lengths =

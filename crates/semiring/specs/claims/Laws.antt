@@ -1,4 +1,4 @@
--- The laws of document 01, "Algebras", in one record, and the statement that all three algebras have them.
+-- The laws of document 01, "Algebras", and of K4 in one record, and the statement that all three algebras have them.
 use Prim.Native.Nat.{ℕ}
 use mathlib.Core.Path.{_≡_}
 use mathlib.Core.Logic.{_⊎_, _≢_}

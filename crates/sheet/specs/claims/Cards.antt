@@ -27,7 +27,7 @@ reach3 = 0 ∷ 1 ∷ 1 ∷ 0 ∷ 0 ∷ 1 ∷ 1 ∷ 0 ∷ 0 ∷ []
 unfoldable pub long3 : ℕ → List ℕ
 long3 x = 0 ∷ 40000 ∷ none ∷ none ∷ 0 ∷ x ∷ none ∷ none ∷ 0 ∷ []
 
--- 0→1 of 40000, 1→2 of the one given word and 0→2 of the other
+-- 0→1 of 40000, 1→2 of x and 0→2 of y
 unfoldable pub steep3 : ℕ → ℕ → List ℕ
 steep3 x y = 0 ∷ 40000 ∷ y ∷ none ∷ 0 ∷ x ∷ none ∷ none ∷ 0 ∷ []
 
