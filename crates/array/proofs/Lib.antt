@@ -2,7 +2,7 @@ pub mod Answers
 pub mod HeaderNeeds
 pub mod Rooms
 pub mod RunNeeds
-pub mod Split
 pub mod StartNeeds
 pub mod States
-pub mod WithPlanes
+pub mod Hosts
+pub mod Lending

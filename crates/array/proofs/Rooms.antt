@@ -6,7 +6,7 @@ use mir.Syntax.{w16, w64}
 use mir.Val.{Fits}
 use Rattle.job_list.proofs.Fits.{area-fits}
 use Rattle.job_list.specs.Fits.{Ranged}
-use Rattle.systolic.specs.State.{stateLength, scratchLength, total}
+use Rattle.systolic.specs.State.{stateLength, total}
 
 module _ (n : ℕ) (most : n ≤ 32) where
   pub area-room : Fits w64 (n * n)
@@ -18,10 +18,7 @@ module _ (n : ℕ) (most : n ≤ 32) where
   pub state-room : Fits w64 (stateLength n)
   state-room = omega (arith, area-fits most)
 
-  pub scratch-room : Fits w64 (scratchLength n)
-  scratch-room = omega (arith, area-fits most)
-
-pub ruleset rooms = (area-room, planes-room, state-room, scratch-room)
+pub ruleset rooms = (area-room, planes-room, state-room)
 
 module _ (order count : ℕ) (ranged : Ranged order count) where
   pub ticks-room : Fits w16 (4 * order * count)

@@ -55,6 +55,11 @@ found-at number (t ∷ ts) e x = go (eqb number (t .1)) refl e x (found-at numbe
     go true is e x later = rw (eqb-true number (t .1) is) (hit e)
     go false is e x later = skip (x .0) (later e (x .1))
 
+-- what was cleared is as long as it was lent
+pub cleared : (used scratch : List ℕ) {scratch′ : List ℕ} → scratch′ ≡ replicate (length used) 0 → length used ≡ length scratch
+    → scratch′ ≡ replicate (length scratch) 0
+cleared used scratch clears same = clears ∙ ap (λ (m : ℕ). replicate m 0) same
+
 -- a table of which no test applied
 none-applied : (ts : List (Bool × ℕ)) → Clear ts → First 0 ts 0
 none-applied [] c = clear
@@ -95,12 +100,13 @@ module _ {h : Header} {a : Algebra} {state : List ℕ} (fit : HeaderFits h a sta
   module _ (sizes weights : List ℕ) (allowance : ℕ) (scratch results : List ℕ) {left made : ℕ}
       (passed : Clear (runTable a (h .order) (h .count) sizes weights scratch results))
       (smaller : made ≡ min allowance left) (rest : left ≡ total (h .order) (h .count) - h .tick) where
-    pub runnable : Runnable a h made sizes weights state results
+    pub runnable : Runnable a h made sizes weights scratch state results
     runnable =
         let count : length sizes ≡ h .count = search equal in
         record {
           header = fit .header;
           state-fits = fit .state-fits;
+          scratch-fits = search equal;
           list = record { ranged = rw count (fit .ranged); sizes-fit = sizes-fit (h .order) sizes (search) };
           weights-fit = search equal;
           results-fit = search equal;

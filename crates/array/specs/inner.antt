@@ -1,4 +1,3 @@
 -- The vocabulary of inner contracts: nothing of document 01 stands here.
 pub mod Header
-pub mod Planed
 pub mod Runnable

@@ -1,23 +1,21 @@
 // Run: ticks of a started array.
 ghost use mathlib.Core.Path.{_≡_};
-ghost use Prim.Native.Nat.{min};
-ghost use lib.ListN.{length};
+ghost use Prim.Native.Nat.{_≤_, min};
+ghost use Rattle.systolic.specs.State.{scratchLength};
 ghost use Rattle.systolic.specs.Run.{ran};
 ghost use Rattle.array.specs.RunAnswer.{runNumber, runMade, Answered};
-ghost use Rattle.array.specs.inner.Planed.{Planed};
 ghost use Rattle.array.specs.inner.Runnable.{Runnable, RunLeft};
 use crate::head::Header;
 use crate::head::HeaderRead;
 use crate::head::read_header;
 use crate::head::store_header;
-use crate::planes::put_planes;
-use crate::planes::take_planes;
 use job_list::any_outside;
 use job_list::words_before;
 use memory::clear;
 use semiring::Algebra;
 use semiring::has_word_above;
 use ticks::advance;
+use turns::Span;
 
 // What a call of run answers: the ticks made, or why it turned back.
 pub enum RunAnswer {
@@ -31,80 +29,43 @@ pub enum RunAnswer {
     WordAbove,
 }
 
-// `made` ticks of a state that runs, with room for its planes.
-fn with_planes(
-    algebra: Algebra,
-    header: Header,
-    made: u16,
-    sizes: &[u16],
-    weights: &[u16],
-    state: &mut [u16],
-    results: &mut [u16],
-    c: &mut [u16],
-    a: &mut [u16],
-    b: &mut [u16],
-)
-    requires { ⌜ Runnable algebra header made (now sizes) (now weights) (now state) (now results) ⌝ }
-    requires { ⌜ Planed (header .order) (now state) (now c) (now a) (now b) ⌝ }
-    ensures { λ _. ⌜ RunLeft algebra made (now (sizes .entry)) (now (weights .entry)) (now (state .entry)) (now (results .entry))
-        (now (state .exit)) (now (results .exit)) ⌝ }
-{
-    let n = header.order as usize;
-    let tick = header.tick as usize;
-    take_planes(n, state, c, a, b);
-    advance(
-        algebra,
-        n,
-        tick,
-        made as usize,
-        sizes,
-        weights,
-        c,
-        a,
-        b,
-        results,
-    );
-    put_planes(n, c, a, b, state);
-    store_header(header.next_tick(made), state);
-}
-
-fn plane_room() -> [u16; 1024]
-    ensures { λ r. ⌜ length r ≡ 1024 ⌝ }
-{
-    [0u16; 1024]
-}
-
-// The same with room of its own.
+// `made` ticks of a state that runs, in its own planes.
 fn proceed(
     algebra: Algebra,
     header: Header,
     made: u16,
     sizes: &[u16],
     weights: &[u16],
+    scratch: &mut [u16],
     state: &mut [u16],
     results: &mut [u16],
 )
-    requires { ⌜ Runnable algebra header made (now sizes) (now weights) (now state) (now results) ⌝ }
+    requires { ⌜ Runnable algebra header made (now sizes) (now weights) (now scratch) (now state) (now results) ⌝ }
     ensures { λ _. ⌜ RunLeft algebra made (now (sizes .entry)) (now (weights .entry)) (now (state .entry)) (now (results .entry))
         (now (state .exit)) (now (results .exit)) ⌝ }
 {
-    let mut c = plane_room();
-    let mut a = plane_room();
-    let mut b = plane_room();
     let n = header.order as usize;
-    let area = n * n;
-    with_planes(
+    let from = header.tick as usize;
+    let to = from + made as usize;
+    advance(
         algebra,
-        header,
-        made,
+        n,
+        Span { from: from, to: to },
         sizes,
         weights,
-        state,
+        scratch,
+        &mut state[4..],
         results,
-        &mut c[..area],
-        &mut a[..area],
-        &mut b[..area],
     );
+    store_header(header.next_tick(made), state);
+}
+
+// Two lines: what comes in at the top and at the left.
+pub fn scratch_words(order: usize) -> usize
+    requires { ⌜ order ≤ 32 ⌝ }
+    ensures { λ r. ⌜ r ≡ scratchLength order ⌝ }
+{
+    2 * order
 }
 
 fn smaller(x: u16, y: u16) -> u16
@@ -141,7 +102,7 @@ pub fn run(
     if weights.len() != words {
         return RunAnswer::WeightsLength;
     }
-    if scratch.len() != 2 * (order * order) {
+    if scratch.len() != scratch_words(order) {
         return RunAnswer::ScratchLength;
     }
     if results.len() != words {
@@ -151,7 +112,16 @@ pub fn run(
         return RunAnswer::WordAbove;
     }
     let made = smaller(allowance, header.ticks_left());
-    proceed(algebra, header, made, sizes, weights, state, results);
+    proceed(
+        algebra,
+        header,
+        made,
+        sizes,
+        weights,
+        scratch,
+        state,
+        results,
+    );
     clear(scratch);
     RunAnswer::Made(made)
 }

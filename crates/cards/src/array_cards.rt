@@ -58,7 +58,7 @@ pub fn far() -> bool {
     let w = [0u16, 40000, 65535, 65535, 0, 25535, 65535, 65535, 0];
     let closed = [0u16, 40000, 65534, 65535, 0, 25535, 65535, 65535, 0];
     let mut state = [9u16; 31];
-    let mut scratch = [9u16; 18];
+    let mut scratch = [9u16; 6];
     let mut r = [9u16; 9];
     let started = starts(1, 3, &n, &w, &mut state, 0);
     let all = makes(&mut state, &n, &w, 16, &mut scratch, &mut r, 16, &closed);
@@ -69,7 +69,7 @@ pub fn far() -> bool {
 fn step(s: &mut [u16], allowance: u16, r: &mut [u16], made: u16, job1: [u16; 4]) -> bool {
     let n = [3u16, 2];
     let w = [0u16, 4, 9, 65535, 0, 3, 1, 65535, 0, 0, 5, 6, 0];
-    let mut scratch = [9u16; 18];
+    let mut scratch = [9u16; 6];
     let mut expected = [0u16, 4, 7, 4, 0, 3, 1, 5, 0, 9, 9, 9, 9];
     expected[9] = job1[0];
     expected[10] = job1[1];
@@ -154,7 +154,7 @@ const CLOSED: [u16; 25] = [
 pub fn third_pass() -> bool {
     let n = [5u16];
     let mut state = [9u16; 79];
-    let mut scratch = [9u16; 50];
+    let mut scratch = [9u16; 10];
     let mut r = [9u16; 25];
     let started = starts(1, 5, &n, &LINKS, &mut state, 0);
     let ran = makes(

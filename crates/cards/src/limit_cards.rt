@@ -55,7 +55,7 @@ fn no_ticks() -> bool {
 pub fn leaves(before: [u16; 16], allowance: u16, after: [u16; 16], word: u16) -> bool {
     let held = [9u16, 8, 7, 6];
     let mut state = before;
-    let mut scratch = [9u16; 8];
+    let mut scratch = [9u16; 4];
     let mut r = held;
     let n = [2u16];
     let w = [0u16, 5, 65535, 0];
@@ -69,7 +69,7 @@ pub fn leaves(before: [u16; 16], allowance: u16, after: [u16; 16], word: u16) ->
         0,
         &held,
     );
-    ran & same_words(&state, &after) & same_words(&scratch, &[word; 8])
+    ran & same_words(&state, &after) & same_words(&scratch, &[word; 4])
 }
 
 fn unchanged(state: [u16; 16], allowance: u16) -> bool {

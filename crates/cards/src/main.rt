@@ -2,6 +2,7 @@
 mod array_cards;
 mod limit_cards;
 mod listing_card;
+mod scratch_cards;
 mod table_cards;
 mod verdict;
 mod way_cards;
@@ -29,6 +30,7 @@ fn main() {
     tell(b"array, far and none: ", array_cards::far());
     tell(b"array, third pass: ", array_cards::third_pass());
     tell(b"array, zero ticks: ", limit_cards::zero_ticks());
+    tell(b"array, two lines of scratch: ", scratch_cards::two_lines());
     tell(b"way, two of one word: ", way_cards::two_ways());
     tell(b"way, a point to itself: ", way_cards::alone());
     tell(b"way, none: ", way_cards::no_way());

@@ -4,6 +4,7 @@ use crate::array_cards::starts;
 use crate::limit_cards::at_tick;
 use crate::limit_cards::leaves;
 use crate::listing_card::prints;
+use crate::scratch_cards::lends;
 use crate::table_cards::closes;
 use crate::verdict::tell;
 use crate::way_cards::gives;
@@ -47,6 +48,14 @@ pub fn tell_all() {
     tell(
         b"wrong, a run's scratch: ",
         leaves(at_tick(5), 0, at_tick(5), 9),
+    );
+    tell(
+        b"wrong, a scratch of 2N words more: ",
+        lends(&mut [9u16; 12], 0, &[0u16; 12]),
+    );
+    tell(
+        b"wrong, a scratch not cleared: ",
+        lends(&mut [9u16; 6], 0, &[9u16; 6]),
     );
     tell(b"wrong, a sheet's byte: ", prints(b"", b"(refused 17 1)\n"));
     tell(b"wrong, a sheet's length: ", prints(b"", b"(refused 17 0)"));

@@ -1,4 +1,7 @@
-pub mod Geometry
-pub mod Turns
-pub mod Parts
-pub mod Lending
+pub mod Bounds
+pub mod Going
+pub mod Words
+pub mod Added
+pub mod Stores
+pub mod Taken
+pub mod Halves

@@ -1,9 +1,6 @@
-// The cells of the systolic array on one tick, row by row in place: a cell's turn, the cells of a row that are in one pass, a
-// row.
-mod part;
-mod rows;
-mod turn;
+// The work of the array's cells on one tick, in place, once a and b hold what came in: c, then what a and b take from it.
+mod settling;
+mod summing;
+mod taking;
 
-pub use rows::row;
-pub use turn::Turn;
-pub use turn::live;
+pub use settling::settle;

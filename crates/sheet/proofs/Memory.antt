@@ -27,8 +27,8 @@ module _ (a : Algebra) (order : ℕ) (sizes weights : List ℕ) (list : ListAcce
   pub state-room : Fits w64 (stateLength order)
   state-room = omega (arith, area-most)
 
-  pub scratch-room : Fits w64 (scratchLength order)
-  scratch-room = omega (arith, area-most)
+  pub order-most : order ≤ 32
+  order-most = list .fits .ranged .most
 
   module _ (state : List ℕ) (long : length state ≡ 3076) where
     pub state-within : stateLength order ≤ length state
@@ -37,12 +37,12 @@ module _ (a : Algebra) (order : ℕ) (sizes weights : List ℕ) (list : ListAcce
     pub state-part : stateLength order ≡ length (take (stateLength order) state)
     state-part = sym (length-take-le (stateLength order) state state-within)
 
-  module _ (scratch : List ℕ) (long : length scratch ≡ 2048) where
-    pub scratch-within : scratchLength order ≤ length scratch
-    scratch-within = omega (arith, area-most)
+  module _ {lines : ℕ} (is : lines ≡ scratchLength order) (scratch : List ℕ) (long : length scratch ≡ 64) where
+    pub scratch-within : lines ≤ length scratch
+    scratch-within = omega (arith, order-most)
 
-    pub scratch-part : scratchLength order ≡ length (take (scratchLength order) scratch)
-    scratch-part = sym (length-take-le (scratchLength order) scratch scratch-within)
+    pub scratch-part : lines ≡ length (take lines scratch)
+    scratch-part = sym (length-take-le lines scratch scratch-within)
 
   module _ (results : List ℕ) (long : length results ≡ 16384) where
     pub results-within : length weights ≤ length results
@@ -51,10 +51,11 @@ module _ (a : Algebra) (order : ℕ) (sizes weights : List ℕ) (list : ListAcce
     pub results-part : length weights ≡ length (take (length weights) results)
     results-part = sym (length-take-le (length weights) results results-within)
 
-  pub lent : (state scratch results : List ℕ) → length state ≡ 3076 → length scratch ≡ 2048 → length results ≡ 16384
-      → RunMemory order sizes (take (stateLength order) state) (take (scratchLength order) scratch) (take (length weights) results)
-  lent state scratch results h g f = record {
+  pub lent : {lines : ℕ} → lines ≡ scratchLength order
+      → (state scratch results : List ℕ) → length state ≡ 3076 → length scratch ≡ 64 → length results ≡ 16384
+      → RunMemory order sizes (take (stateLength order) state) (take lines scratch) (take (length weights) results)
+  lent is state scratch results h g f = record {
     state-fits = sym (state-part state h);
-    scratch-fits = sym (scratch-part scratch g);
+    scratch-fits = sym (scratch-part is scratch g) ∙ is;
     results-fit = sym (results-part results f) ∙ list .weights-fit;
   }

@@ -11,6 +11,7 @@ use crate::tick_lines::put_ticks;
 use array::RunAnswer;
 use array::StartAnswer;
 use array::run;
+use array::scratch_words;
 use array::start;
 use memory::clear;
 use semiring::Algebra;
@@ -51,10 +52,10 @@ fn state_room() -> [u16; 3076]
     [0u16; 3076]
 }
 
-fn scratch_room() -> [u16; 2048]
-    ensures { λ r. ⌜ length r ≡ 2048 ⌝ }
+fn scratch_room() -> [u16; 64]
+    ensures { λ r. ⌜ length r ≡ 64 ⌝ }
 {
-    [0u16; 2048]
+    [0u16; 64]
 }
 
 fn results_room() -> [u16; 16384]
@@ -79,7 +80,7 @@ pub fn print_list(
     let mut scratch = scratch_room();
     let mut results = results_room();
     let state_words = 4 + 3 * (order * order);
-    let scratch_words = 2 * (order * order);
+    let lines = scratch_words(order);
     let words = weights.len();
     print_run(
         page,
@@ -88,7 +89,7 @@ pub fn print_list(
         sizes,
         weights,
         &mut state[..state_words],
-        &mut scratch[..scratch_words],
+        &mut scratch[..lines],
         &mut results[..words],
     )
 }

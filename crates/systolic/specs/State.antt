@@ -30,9 +30,9 @@ planesOf state = record { c = planeOf 0 state; a = planeOf 1 state; b = planeOf 
 abbrev pub stateLength : ℕ → ℕ
 stateLength order = 4 + 3 * (order * order)
 
--- "Scratch has 2N² words"
+-- "A run must work with 2N words of scratch" (document 02, K5; document 01 had 2N²)
 abbrev pub scratchLength : ℕ → ℕ
-scratchLength order = 2 * (order * order)
+scratchLength order = 2 * order
 
 -- "4NQ + 2N - 2"
 abbrev pub total : ℕ → ℕ → ℕ

@@ -1,5 +1,8 @@
 pub mod Places
-pub mod Rows
-pub mod Feeding
-pub mod Emission
+pub mod Fed
+pub mod Edged
+pub mod Lent
+pub mod Swept
+pub mod Sent
+pub mod Emitted
 pub mod Run

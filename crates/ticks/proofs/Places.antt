@@ -1,9 +1,9 @@
 -- Where the jobs' parts lie: within the words of the list, which are few.
-use Prim.Native.Nat.{ℕ, _+_, _-_, _*_, _<_, _≤_}
+use Prim.Native.Nat.{ℕ, _+_, _*_, _/_, _<_, _≤_}
 use native.Mathlib.Omega.{arith}
-use mathlib.Core.Path.{_≡_, sym, _∙_}
+use mathlib.Core.Path.{_≡_, refl, sym, ap, _∙_}
 use mathlib.Core.List.{List}
-use mathlib.Core.Bool.{true}
+use mathlib.Core.Bool.{Bool, true, false, true≢false}
 use lib.ListN.{length, getD, set}
 use mir.Syntax.{w64}
 use mir.Val.{Fits}
@@ -13,27 +13,57 @@ use Rattle.job_list.proofs.Places.{offset-none, offset-one, part-within}
 use Rattle.job_list.proofs.Fits.{area-fits, offset-most, words-most}
 use Rattle.memory.specs.Walked.{Walked}
 use Rattle.memory.proofs.Walk.{walked-none, walked-one}
-use Rattle.ticks.specs.declared.jobs.Job.{Job}
-use Rattle.cells.specs.Turn.{live, jobIn}
-use Rattle.ticks.specs.Feed.{Listed, PartOf}
-use Rattle.cells.proofs.Turns.{live-job}
+use Rattle.turns.specs.Turn.{live, jobIn}
+use Rattle.turns.proofs.Turns.{live-bounds, live-job}
+use Rattle.ticks.specs.Found.{Listed, Found}
 
--- The job of a live pass, from the numbers of the code.
-module _ {sizes starts : List ℕ} (listed : Listed sizes starts) (pass : ℕ) (e : live (length sizes) pass ≡ true) where
-  pub job-fits : offset sizes (jobIn pass) + getD sizes (jobIn pass) 0 * getD sizes (jobIn pass) 0 ≤ 16384
-  job-fits = omega (arith, part-within sizes (jobIn pass) (live-job (length sizes) pass e), listed .words)
+-- The job of a pass, from the numbers of the code and what `live` answered.
+module _ {sizes starts : List ℕ} (listed : Listed sizes starts) (pass : ℕ) {answer : Bool} (is : answer ≡ live (length sizes) pass) (found : answer ≡ true) where
+  e : live (length sizes) pass ≡ true
+  e = sym is ∙ found
 
-  pub job-part : (size start : ℕ) → size ≡ getD sizes (jobIn pass) 0 → start ≡ getD starts (jobIn pass) 0
-      → PartOf sizes (jobIn pass) (record { size = size; start = start; end = start + size * size })
-  job-part size start f g =
-      let h = live-job (length sizes) pass e in
-      let start-at : start ≡ offset sizes (jobIn pass) = g ∙ listed .start (jobIn pass) h in
-      record {
-        size = f;
-        start = start-at;
-        end = rw start-at;
-        within = rw (start-at, f) (part-within sizes (jobIn pass) h);
-      }
+  pub pass-there : 1 ≤ pass / 4
+  pass-there = omega (arith, live-bounds (length sizes) pass e .0)
+
+  pub job-there : jobIn pass < length sizes
+  job-there = live-job (length sizes) pass e
+
+  pub job-starts : jobIn pass < length starts
+  job-starts = omega (arith, job-there, listed .room)
+
+  pub starts-room : Fits w64 (jobIn pass * 8)
+  starts-room = omega (arith, job-there, listed .few)
+
+  job-fits : offset sizes (jobIn pass) + getD sizes (jobIn pass) 0 * getD sizes (jobIn pass) 0 ≤ 16384
+  job-fits = omega (arith, part-within sizes (jobIn pass) job-there, listed .words)
+
+  module _ {size : ℕ} (f : size ≡ getD sizes (jobIn pass) 0) where
+    pub size-room : Fits w64 (size * size)
+    size-room = omega (arith, job-fits, ap (λ (x : ℕ). x * x) f)
+
+    pub end-room : Fits w64 (getD starts (jobIn pass) 0 + size * size)
+    end-room = omega (arith, job-fits, ap (λ (x : ℕ). x * x) f, listed .start (jobIn pass) job-there)
+
+    pub job-found : Found sizes pass (record { size = size; start = getD starts (jobIn pass) 0; end = getD starts (jobIn pass) 0 + size * size })
+    job-found =
+        let start-at = listed .start (jobIn pass) job-there in
+        record {
+          end = refl;
+          within = rw (start-at, f) (part-within sizes (jobIn pass) job-there);
+          size = λ h. f;
+          start = λ h. start-at;
+          idle = λ h. absurd (true≢false (sym e ∙ h));
+        }
+
+pub none-found : {sizes : List ℕ} {pass : ℕ} {answer : Bool} → answer ≡ live (length sizes) pass → answer ≡ false
+    → Found sizes pass (record { size = 0; start = 0; end = 0 })
+none-found is idle = record {
+  end = refl;
+  within = omega arith;
+  size = λ h. absurd (true≢false (sym h ∙ sym is ∙ idle));
+  start = λ h. absurd (true≢false (sym h ∙ sym is ∙ idle));
+  idle = λ h. refl;
+}
 
 -- The starts of the first q jobs found, and where the next one begins.
 pub record Marked (sizes old starts : List ℕ) (q at : ℕ) : Type 0 where
@@ -70,6 +100,3 @@ ends sizes old starts q at m last asked = record {
   start = λ p h. m .found .inside p (omega arith) (omega arith);
   words = words-most (asked .1);
 }
-
-pub part-width : {sizes : List ℕ} {q : ℕ} {job : Job} → PartOf sizes q job → job .end - job .start ≡ job .size * job .size
-part-width part = omega (arith, part .start, part .end)

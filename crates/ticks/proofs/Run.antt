@@ -1,37 +1,34 @@
 -- A tick from its three calls, and ticks one after the other, of an array that is ready: `Ready` names the jobs and the memories.
-use Prim.Native.Nat.{ℕ, _+_, _*_, _≤_, _<_}
+use Prim.Native.Nat.{ℕ, _+_, _-_, _*_, _≤_, _<_}
+use native.Mathlib.Nat.{mul-le-mul-left}
 use native.Mathlib.Omega.{arith}
+use native.Mathlib.Decide.{decLt}
 use mathlib.Core.Path.{_≡_, refl, sym, ap, _∙_}
 use mathlib.Core.List.{List}
 use lib.ListN.{length}
-use Rattle.job_list.specs.Jobs.{Jobs}
+use Rattle.semiring.specs.declared.Algebra.{Algebra}
+use Rattle.job_list.specs.Jobs.{Jobs, jobsOf}
 use Rattle.job_list.specs.Fits.{Small}
-use Rattle.job_list.proofs.Fits.{fits-small}
-use Rattle.systolic.specs.Cell.{Planes, Sized}
+use Rattle.job_list.proofs.Fits.{fits-small, words-most}
+use Rattle.systolic.specs.Cell.{Planes}
 use Rattle.systolic.specs.Tick.{Array, planesAfter, emittedRows, ticked, ticks}
-use Rattle.systolic.proofs.Emission.{rows-length}
-use Rattle.systolic.proofs.Ticks.{ticks-add, planes-sized}
+use Rattle.systolic.proofs.Ticks.{ticks-add}
 use Rattle.systolic.proofs.Totals.{total-most}
-use Rattle.cells.specs.declared.turn.Turn.{Turn}
-use Rattle.cells.specs.Turn.{At, Corner, cornerTick}
-use Rattle.cells.specs.Cells.{Swept}
+use Rattle.turns.specs.declared.turn.Turn.{Turn}
+use Rattle.turns.specs.Turn.{At, stepOf}
+use Rattle.turns.specs.Layout.{planesIn}
+use Rattle.ticks.specs.declared.jobs.Job.{Job}
+use Rattle.ticks.specs.declared.stage.Stage.{Stage}
+use Rattle.ticks.specs.Found.{Listed, Found}
+use Rattle.ticks.specs.Staged.{Staged}
+use Rattle.ticks.specs.Filled.{Filling, Filled}
+use Rattle.ticks.specs.Swept.{Sweeping, Held, Edged, Made}
+use Rattle.ticks.specs.Sent.{Emitting}
 use Rattle.ticks.specs.Ready.{arrayOf, Ready}
-use Rattle.ticks.proofs.Rows.{swept-all}
+use Rattle.ticks.proofs.Edged.{edged}
+use Rattle.ticks.proofs.Lent.{held-planes, made-planes}
 
--- planes that keep their lengths
-pub sized-kept : {n : ℕ} {r : Planes} {c a b : List ℕ} → Sized n r → length c ≡ length (r .c) → length a ≡ length (r .a)
-    → length b ≡ length (r .b) → Sized n (record { c = c; a = a; b = b })
-sized-kept sized e f g = record { c = e ∙ sized .c; a = f ∙ sized .a; b = g ∙ sized .b }
-
-ticked-sized : (J : Jobs) (t : ℕ) (x : Array) → Sized (J .order) (ticked J t x .planes)
-unfolding ticked
-ticked-sized J t x = planes-sized J t (x .planes)
-
-ticked-length : (J : Jobs) → 1 ≤ J .order → (t : ℕ) (x : Array) → length (ticked J t x .results) ≡ length (x .results)
-unfolding ticked
-ticked-length J least t x = rows-length J least t (planesAfter J t (x .planes)) (J .order) (x .results)
-
-module _ {J : Jobs} {last : ℕ} {m : Array} (ready : Ready J last m) where
+module _ {J : Jobs} {last : ℕ} {edges planes results : List ℕ} (ready : Ready J last edges planes results) where
   pub ready-small : Small (J .sizes)
   ready-small = fits-small (ready .list)
 
@@ -39,62 +36,166 @@ module _ {J : Jobs} {last : ℕ} {m : Array} (ready : Ready J last m) where
   ready-last = omega (arith, ready .ticks, total-most (ready .list .ranged .most) (ready .list .ranged .few))
 
   -- The array stays ready as long as its memories keep their lengths.
-  pub ready-again : {last′ : ℕ} {m′ : Array} → last′ ≤ last → Sized (J .order) (m′ .planes) → length (m′ .results) ≡ length (m .results)
-      → Ready J last′ m′
-  ready-again h sized same = record {
+  pub ready-again : {last′ : ℕ} {edges′ planes′ results′ : List ℕ} → last′ ≤ last → length edges′ ≡ length edges
+      → length planes′ ≡ length planes → length results′ ≡ length results → Ready J last′ edges′ planes′ results′
+  ready-again h e f g = record {
     list = ready .list;
     weights-fit = ready .weights-fit;
-    planes = sized;
-    results-fit = same ∙ ready .results-fit;
+    edges-fit = e ∙ ready .edges-fit;
+    planes-fit = f ∙ ready .planes-fit;
+    results-fit = g ∙ ready .results-fit;
     ticks = omega (arith, ready .ticks);
   }
 
--- The loop of the ticks of m, of which the first is tick t: `made` of `count` are made and have left x.
-pub record Making (J : Jobs) (t count made : ℕ) (m x : Array) : Type 0 where
-  pub within : made ≤ count
-  pub ready : Ready J (t + count) x
-  pub array : x ≡ ticks J t made m
+-- What stands in the array, from the turn of cell (0, 0) and the two jobs.
+module _ {n t : ℕ} {sizes starts : List ℕ} {head : Turn} (asked : (1 ≤ n) × (n ≤ 32) × (t ≤ 2110) × Listed sizes starts) (at : At n (t + 4 * n) head) where
+  head-early : 4 ≤ head .pass
+  head-early = go (decLt (head .pass) 4)
+    where
+      go : Dec (head .pass < 4) → 4 ≤ head .pass
+      go (yes h) = absurd (omega (arith, at .at, at .below, mul-le-mul-left n h))
+      go (no h) = omega arith
 
-pub begins : {J : Jobs} {t count : ℕ} {m : Array} → Ready J (t + count) m → Making J t count 0 m m
+  pub pass-there : 2 ≤ head .pass
+  pass-there = omega (arith, head-early)
+
+  pub staged : {front back : Job} → Found sizes (head .pass) front → Found sizes (head .pass - 2) back
+      → Staged n t sizes (record { tick = t; head = head; front = front; back = back })
+  staged first second = record {
+    tick = refl;
+    head = record {
+      least = asked .0;
+      most = asked .1;
+      few = asked .3 .few;
+      below = at .below;
+      early = head-early;
+      late = omega (arith, at .at, asked .1, asked .2);
+    };
+    step = at .at;
+    front = first;
+    back = second;
+  }
+
+-- The calls of a tick.
+module _ {algebra : Algebra} {n : ℕ} {sizes weights : List ℕ} {s : Stage} {edges planes results : List ℕ}
+    (ready : Ready (jobsOf algebra n sizes weights) (s .tick + 1) edges planes results) (stage : Staged n (s .tick) sizes s) where
+  pub tick-fills : {pass : ℕ} {job : Job} {edges′ planes′ : List ℕ} → Found sizes pass job → length edges′ ≡ length edges → length planes′ ≡ length planes
+      → Filling n (s .head) job weights planes′ edges′
+  tick-fills found same same′ = record {
+    least = stage .head .least;
+    most = stage .head .most;
+    below = stage .head .below;
+    early = omega (arith, stage .head .early);
+    end = found .end;
+    within = omega (arith, found .within, ready .weights-fit);
+    few = omega (arith, ready .weights-fit, words-most (fits-small (ready .list)));
+    planes-fit = same′ ∙ ready .planes-fit;
+    room = omega (arith, ready .edges-fit);
+  }
+
+  pub tick-sweeps : {edges′ : List ℕ} → length edges′ ≡ length edges
+      → Sweeping n (length sizes) (s .head) edges′ planes
+  tick-sweeps same = record {
+    lent = record { turn = stage .head; long = ready .planes-fit };
+    room = record { most = stage .head .most; wide = omega (arith, ready .edges-fit); long = ready .planes-fit };
+  }
+
+  pub tick-emits : {pass : ℕ} {job : Job} {planes′ : List ℕ} → Found sizes pass job → length planes′ ≡ length planes → Emitting n (s .head) job planes′ results
+  tick-emits found same = record {
+    least = stage .head .least;
+    most = stage .head .most;
+    below = stage .head .below;
+    early = stage .head .early;
+    end = found .end;
+    within = omega (arith, found .within, ready .results-fit);
+    few = omega (arith, ready .results-fit, words-most (fits-small (ready .list)));
+    planes-fit = same ∙ ready .planes-fit;
+  }
+
+  -- the edges filled, the cells swept, and what leaves read off them
+  pub tick-done : {edges′ planes′ results′ : List ℕ} → length planes′ ≡ length planes
+      → Filled algebra n (s .head) (s .front) weights planes edges′
+      → ((sizes′ weights′ : List ℕ) (t : ℕ) (r : Planes) → length sizes′ ≡ length sizes → stepOf n (s .head) ≡ t + 4 * n
+      → Held (jobsOf algebra n sizes′ weights′) r planes → Edged (jobsOf algebra n sizes′ weights′) t r edges′
+      → Made (jobsOf algebra n sizes′ weights′) t r planes′)
+      → ((a : Algebra) (sizes′ weights′ : List ℕ) (t : ℕ) → stepOf n (s .head) ≡ t + 4 * n → Found sizes′ (s .head .pass - 2) (s .back)
+      → results′ ≡ emittedRows (jobsOf a n sizes′ weights′) t (planesIn n planes′) n results)
+      → arrayOf n planes′ results′ ≡ ticked (jobsOf algebra n sizes weights) (s .tick) (arrayOf n planes results)
+  unfolding ticked
+  tick-done {edges′} {planes′} {results′} same filled sweeps emits =
+      let J : Jobs = jobsOf algebra n sizes weights in
+      let t : ℕ = s .tick in
+      let held : Held J (planesIn n planes) planes = held-planes J planes (ready .planes-fit) in
+      let ins : Edged J t (planesIn n planes) edges′ = edged algebra sizes weights t (stage .head .below) (stage .step) (stage .front) held filled in
+      let cells : Made J t (planesIn n planes) planes′ = sweeps sizes weights t (planesIn n planes) refl (stage .step) held ins in
+      let made : planesIn n planes′ ≡ planesAfter J t (planesIn n planes) =
+      made-planes J t (planesIn n planes) planes′ (same ∙ ready .planes-fit) cells in
+      let wrote = emits algebra sizes weights t (stage .step) (stage .back) ∙ ap (λ (p : Planes). emittedRows J t p n results) made in
+      λ x. record { planes = made x; results = wrote x }
+
+-- The loop of the ticks from `from` on to `to`: those before t are made.
+pub record Making (J : Jobs) (from to t : ℕ) (planes₀ results₀ edges planes results : List ℕ) : Type 0 where
+  pub first : from ≤ t
+  pub most : t ≤ to
+  pub ready : Ready J to edges planes results
+  pub array : arrayOf (J .order) planes results ≡ ticks J from (t - from) (arrayOf (J .order) planes₀ results₀)
+
+ticks-none : (J : Jobs) (t : ℕ) (x : Array) → ticks J t 0 x ≡ x
 unfolding ticks
-begins ready = record { within = omega arith; ready = ready; array = refl }
+ticks-none J t x = refl
 
 ticks-single : (J : Jobs) (t : ℕ) (x : Array) → ticks J t 1 x ≡ ticked J t x
 unfolding ticks
 ticks-single J t x = refl
 
-module _ {J : Jobs} {t count made : ℕ} {m x : Array} (c : Making J t count made m x) where
-  pub one-ready : made < count → Ready J (t + made + 1) x
-  one-ready more = ready-again (c .ready) (omega arith) (c .ready .planes) refl
+pub begins : {J : Jobs} {from to : ℕ} {edges planes results : List ℕ} → Ready J to edges planes results → from ≤ to
+    → Making J from to from planes results edges planes results
+begins {J} {from} {planes} {results} ready order =
+    let e : from - from ≡ 0 = omega arith in
+    record {
+      first = omega arith;
+      most = order;
+      ready = ready;
+      array = rw e (sym (ticks-none J from (arrayOf (J .order) planes results)));
+    }
 
-  pub goes-on : {y : Array} → made < count → y ≡ ticked J (t + made) x → Making J t count (made + 1) m y
-  goes-on {y} more e = record {
-    within = omega arith;
-    ready = ready-again (c .ready) (omega arith) (rw e (ticked-sized J (t + made) x)) (rw e (ticked-length J (c .ready .list .ranged .least) (t + made) x));
-    array =
-        e ∙ ap (ticked J (t + made)) (c .array) ∙ sym (ticks-single J (t + made) (ticks J t made m)) ∙ sym (ticks-add J t made 1 m);
-  }
+module _ {J : Jobs} {from to t : ℕ} {planes₀ results₀ edges planes results : List ℕ} (c : Making J from to t planes₀ results₀ edges planes results) where
+  pub ends : to ≤ t → arrayOf (J .order) planes results ≡ ticks J from (to - from) (arrayOf (J .order) planes₀ results₀)
+  ends last = let e : t ≡ to = omega (arith, c .most) in rw e at (c .array)
 
-  pub ends : count ≤ made → x ≡ ticks J t count m
-  ends last = let e : made ≡ count = omega (arith, c .within) in c .array ∙ ap (λ (k : ℕ). ticks J t k m) e
+  module _ (more : t < to) where
+    pub one-asked : {n : ℕ} {sizes : List ℕ} {s : Stage} → Staged n t sizes s → Ready J (s .tick + 1) edges planes results × Staged n (s .tick) sizes s
+    one-asked stage = (
+      ready-again (c .ready) (omega (arith, stage .tick)) refl refl refl,
+      record {
+        tick = refl;
+        head = stage .head;
+        step = omega (arith, stage .step, stage .tick);
+        front = stage .front;
+        back = stage .back;
+      },
+    )
 
--- Tick t, on which the corners have turn s.
-module _ {J : Jobs} (t : ℕ) {m : Array} {s : Turn} (ready : Ready J (t + 1) m) (at : At (J .order) (t + 3 * J .order + 1) s) where
-  pub corner-at : Corner (J .order) s
-  corner-at = record {
-    below = at .below;
-    early = omega (arith, at .at);
-    late = omega (arith, at .at, ready-last ready, ready .list .ranged .most);
-  }
+    pub tick-room : t ≤ 2110
+    tick-room = omega (arith, ready-last (c .ready))
 
-  -- the planes swept, and the results with what leaves from these planes
-  pub tick-done : {c a b results : List ℕ} → Sized (J .order) (record { c = c; a = a; b = b })
-      → Swept J (cornerTick (J .order) s) (m .planes) 0 (record { c = c; a = a; b = b })
-      → results ≡ emittedRows J (cornerTick (J .order) s) (record { c = c; a = a; b = b }) (J .order) (m .results)
-      → arrayOf c a b results ≡ ticked J t m
-  unfolding ticked
-  tick-done {c} {a} {b} sized swept wrote =
-      let on : cornerTick (J .order) s ≡ t = omega (arith, at .at) in
-      let made : record { c = c; a = a; b = b } ≡ planesAfter J t (m .planes) = swept-all sized (rw on at swept) in
-      let sent = rw on at wrote ∙ ap (λ (p : Planes). emittedRows J t p (J .order) (m .results)) made in
-      λ x. record { planes = made x; results = sent x }
+    pub goes-on : {n : ℕ} {sizes : List ℕ} {s : Stage} {edges′ planes′ results′ : List ℕ} → Staged n t sizes s
+        → length edges′ ≡ length edges → length planes′ ≡ length planes → length results′ ≡ length results
+        → arrayOf (J .order) planes′ results′ ≡ ticked J (s .tick) (arrayOf (J .order) planes results)
+        → Making J from to (t + 1) planes₀ results₀ edges′ planes′ results′
+    goes-on stage e f g made =
+        let d : from + (t - from) ≡ t = omega (arith, c .first) in
+        let d′ : t + 1 - from ≡ t - from + 1 = omega (arith, c .first) in
+        record {
+          first = omega (arith, c .first);
+          most = omega arith;
+          ready = ready-again (c .ready) (omega arith) e f g;
+          array =
+              made
+              ∙ ap (λ (x : ℕ). ticked J x (arrayOf (J .order) planes results)) (stage .tick)
+              ∙ ap (ticked J t) (c .array)
+              ∙ sym (ticks-single J t (ticks J from (t - from) (arrayOf (J .order) planes₀ results₀)))
+              ∙ ap (λ (x : ℕ). ticks J x 1 (ticks J from (t - from) (arrayOf (J .order) planes₀ results₀))) (sym d)
+              ∙ sym (ticks-add J from (t - from) 1 (arrayOf (J .order) planes₀ results₀))
+              ∙ ap (λ (x : ℕ). ticks J from x (arrayOf (J .order) planes₀ results₀)) (sym d′);
+        }

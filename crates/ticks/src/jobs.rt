@@ -1,13 +1,12 @@
 // Where the jobs lie in the list's weights and in the results.
 ghost use mathlib.Core.Path.{_≡_};
-ghost use mathlib.Core.Bool.{true};
 ghost use Prim.Native.Nat.{_≤_};
 ghost use lib.ListN.{length};
 ghost use Rattle.job_list.specs.Fits.{Small};
-ghost use Rattle.cells.specs.Turn.{live, jobIn};
-ghost use Rattle.ticks.specs.Feed.{Listed, PartOf};
+ghost use Rattle.ticks.specs.Found.{Listed, Found};
+use turns::live;
 
-// A job's size and the part that begins where the earlier jobs' end.
+// A job's size and its part, which begins where the earlier jobs' end.
 pub struct Job {
     pub size: usize,
     pub start: usize,
@@ -35,17 +34,24 @@ pub fn mark(sizes: &[u16], starts: &mut [usize])
     }
 }
 
-// The job of a live pass.
+// The job of a pass; where the pass is of none, a job of no points.
 pub fn job_of(pass: usize, sizes: &[u16], starts: &[usize]) -> Job
-    requires { ⌜ Listed (now sizes) (now starts) × (live (length (now sizes)) pass ≡ true) ⌝ }
-    ensures { λ r. ⌜ PartOf (now (sizes .entry)) (jobIn pass) r ⌝ }
+    requires { ⌜ Listed (now sizes) (now starts) ⌝ }
+    ensures { λ r. ⌜ Found (now (sizes .entry)) pass r ⌝ }
 {
-    let q = pass / 4 - 1;
-    let size = wide(sizes[q]);
-    let start = starts[q];
+    if live(sizes.len(), pass) {
+        let q = pass / 4 - 1;
+        let size = wide(sizes[q]);
+        let start = starts[q];
+        return Job {
+            size: size,
+            start: start,
+            end: start + size * size,
+        };
+    }
     Job {
-        size: size,
-        start: start,
-        end: start + size * size,
+        size: 0,
+        start: 0,
+        end: 0,
     }
 }

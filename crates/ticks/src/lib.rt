@@ -1,8 +1,8 @@
-// The ticks of the systolic array, on planes lent as three memories: what comes in at its edges, the rows from the last to the
-// first, what leaves.
-mod emit;
-mod feed;
+// The ticks of the systolic array, in place in its planes: what comes in at its edges, the cells, what leaves.
+mod emission;
+mod feeding;
 mod jobs;
+mod stage;
 mod sweep;
 mod ticks;
 

@@ -1,45 +1,33 @@
-// All rows on one tick, from the last to the first: what a row reads of the row above is not yet changed.
+// All cells on one tick: a and b move on, the edges' words come in, then c and what a and b take from it.
 ghost use mathlib.Core.Path.{_≡_};
-ghost use Prim.Native.Nat.{_-_, _*_, _≤_, _<_};
+ghost use Prim.Native.Nat.{ℕ, _+_, _*_};
+ghost use mathlib.Core.List.{List};
 ghost use lib.ListN.{length};
-ghost use Rattle.job_list.specs.Jobs.{wordsOf, jobsOf};
-ghost use Rattle.systolic.specs.Cell.{Sized};
-ghost use Rattle.cells.specs.Turn.{Corner, cornerTick};
-ghost use Rattle.cells.specs.Span.{memories};
-ghost use Rattle.ticks.specs.Feed.{Listed};
-ghost use Rattle.cells.specs.Cells.{Topped, Swept};
-use crate::feed::first;
-use cells::Turn;
-use cells::row;
+ghost use Rattle.systolic.specs.Cell.{Planes};
+ghost use Rattle.job_list.specs.Jobs.{jobsOf};
+ghost use Rattle.turns.specs.Turn.{stepOf};
+ghost use Rattle.ticks.specs.Swept.{Sweeping, Held, Edged, Made};
+use cells::settle;
+use moves::enter;
+use moves::slide;
 use semiring::Algebra;
+use turns::Turn;
 
+// `head` is the turn of cell (0, 0).
 pub fn sweep(
     algebra: Algebra,
     n: usize,
-    corner: Turn,
-    sizes: &[u16],
-    starts: &[usize],
-    weights: &[u16],
-    top: &[u16],
-    c: &mut [u16],
-    a: &mut [u16],
-    b: &mut [u16],
+    count: usize,
+    head: Turn,
+    edges: &[u16],
+    planes: &mut [u16],
 )
-    requires { ⌜ (n ≤ 32) × Corner n corner × Listed (now sizes) (now starts) × (wordsOf (now sizes) ≡ length (now weights)) × (n ≤ length (now top))
-        × Sized n (memories (now c) (now a) (now b)) ⌝ }
-    ensures { λ _. ⌜ (Topped (jobsOf algebra n (now (sizes .entry)) (now (weights .entry))) (cornerTick n corner)
-        (memories (now (c .entry)) (now (a .entry)) (now (b .entry))) (now (top .entry))
-        → Swept (jobsOf algebra n (now (sizes .entry)) (now (weights .entry))) (cornerTick n corner)
-        (memories (now (c .entry)) (now (a .entry)) (now (b .entry))) 0 (memories (now (c .exit)) (now (a .exit)) (now (b .exit)))) ⌝ }
+    requires { ⌜ Sweeping n count head (now edges) (now planes) ⌝ }
+    ensures { λ _. ⌜ ((sizes weights : List ℕ) (t : ℕ) (r : Planes) → length sizes ≡ count → stepOf n head ≡ t + 4 * n
+        → Held (jobsOf algebra n sizes weights) r (now (planes .entry)) → Edged (jobsOf algebra n sizes weights) t r (now (edges .entry))
+        → Made (jobsOf algebra n sizes weights) t r (now (planes .exit))) ⌝ }
 {
-    let count = sizes.len();
-    let mut s = corner;
-    let mut i = n;
-    while 0 < i {
-        let last = i * n - 1;
-        i -= 1;
-        let word = first(algebra, i, s, sizes, starts, weights, a[last]);
-        row(algebra, n, count, i, s, word, top, c, a, b);
-        s = s.next(n);
-    }
+    slide(n, count, head, planes);
+    enter(n, count, head, edges, planes);
+    settle(algebra, n, count, head, planes);
 }

@@ -1,112 +1,66 @@
-// Ticks of the whole array: what comes in at the top, the rows, what leaves.
+// Ticks of the whole array, in place: what comes in at the edges, the cells, what leaves.
 ghost use mathlib.Core.Path.{_≡_};
-ghost use Prim.Native.Nat.{_+_, _*_, _<_};
+ghost use Prim.Native.Nat.{_+_, _-_, _≤_};
 ghost use Rattle.systolic.specs.Tick.{ticked, ticks as ticksOf};
 ghost use Rattle.job_list.specs.Jobs.{jobsOf};
-ghost use Rattle.ticks.specs.Feed.{Listed};
+ghost use Rattle.ticks.specs.Staged.{Staged};
 ghost use Rattle.ticks.specs.Ready.{arrayOf, Ready};
-use crate::emit::emit;
-use crate::feed::fill;
+use crate::emission::emit;
+use crate::feeding::fill;
 use crate::jobs::mark;
+use crate::stage::Stage;
+use crate::stage::stage_at;
 use crate::sweep::sweep;
-use cells::Turn;
 use semiring::Algebra;
+use turns::Span;
 
-// Tick t.
-pub fn tick(
+// The tick of a stage. `edges` has room for the words that come in at the top and at the left.
+fn tick(
     algebra: Algebra,
     n: usize,
-    t: usize,
+    stage: Stage,
     sizes: &[u16],
-    starts: &[usize],
     weights: &[u16],
-    c: &mut [u16],
-    a: &mut [u16],
-    b: &mut [u16],
+    edges: &mut [u16],
+    planes: &mut [u16],
     results: &mut [u16],
 )
-    requires { ⌜ Ready (jobsOf algebra n (now sizes) (now weights)) (t + 1) (arrayOf (now c) (now a) (now b) (now results))
-        × Listed (now sizes) (now starts) ⌝ }
-    ensures { λ _. ⌜ arrayOf (now (c .exit)) (now (a .exit)) (now (b .exit)) (now (results .exit))
-        ≡ ticked (jobsOf algebra n (now (sizes .entry)) (now (weights .entry))) t
-        (arrayOf (now (c .entry)) (now (a .entry)) (now (b .entry)) (now (results .entry))) ⌝ }
+    requires { ⌜ Ready (jobsOf algebra n (now sizes) (now weights)) (stage .tick + 1) (now edges) (now planes) (now results) ⌝ }
+    requires { ⌜ Staged n (stage .tick) (now sizes) stage ⌝ }
+    ensures { λ _. ⌜ arrayOf n (now (planes .exit)) (now (results .exit))
+        ≡ ticked (jobsOf algebra n (now (sizes .entry)) (now (weights .entry))) (stage .tick)
+        (arrayOf n (now (planes .entry)) (now (results .entry))) ⌝ }
 {
-    let corner = Turn::at(n, t + 3 * n + 1);
-    let mut top = [0u16; 32];
-    fill(algebra, n, corner, sizes, starts, weights, b, &mut top);
-    sweep(algebra, n, corner, sizes, starts, weights, &top, c, a, b);
-    emit(n, corner, sizes, starts, a, results);
+    let head = stage.head;
+    fill(algebra, n, head, stage.front, weights, planes, edges);
+    sweep(algebra, n, sizes.len(), head, edges, planes);
+    emit(n, head, stage.back, planes, results);
 }
 
-// `count` ticks, of which the first is tick `from`.
-fn ticks(
-    algebra: Algebra,
-    n: usize,
-    from: usize,
-    count: usize,
-    sizes: &[u16],
-    starts: &[usize],
-    weights: &[u16],
-    c: &mut [u16],
-    a: &mut [u16],
-    b: &mut [u16],
-    results: &mut [u16],
-)
-    requires { ⌜ Ready (jobsOf algebra n (now sizes) (now weights)) (from + count) (arrayOf (now c) (now a) (now b) (now results))
-        × Listed (now sizes) (now starts) ⌝ }
-    ensures { λ _. ⌜ arrayOf (now (c .exit)) (now (a .exit)) (now (b .exit)) (now (results .exit))
-        ≡ ticksOf (jobsOf algebra n (now (sizes .entry)) (now (weights .entry))) from count
-        (arrayOf (now (c .entry)) (now (a .entry)) (now (b .entry)) (now (results .entry))) ⌝ }
-{
-    let mut made = 0;
-    while made < count {
-        tick(
-            algebra,
-            n,
-            from + made,
-            sizes,
-            starts,
-            weights,
-            c,
-            a,
-            b,
-            results,
-        );
-        made += 1;
-    }
-}
-
-// The same, from the jobs alone. The planes may hold any words.
+// The ticks from ≤ t < to of a span. The planes may hold any words.
 pub fn advance(
     algebra: Algebra,
     n: usize,
-    from: usize,
-    count: usize,
+    span: Span,
     sizes: &[u16],
     weights: &[u16],
-    c: &mut [u16],
-    a: &mut [u16],
-    b: &mut [u16],
+    edges: &mut [u16],
+    planes: &mut [u16],
     results: &mut [u16],
 )
-    requires { ⌜ Ready (jobsOf algebra n (now sizes) (now weights)) (from + count) (arrayOf (now c) (now a) (now b) (now results)) ⌝ }
-    ensures { λ _. ⌜ arrayOf (now (c .exit)) (now (a .exit)) (now (b .exit)) (now (results .exit))
-        ≡ ticksOf (jobsOf algebra n (now (sizes .entry)) (now (weights .entry))) from count
-        (arrayOf (now (c .entry)) (now (a .entry)) (now (b .entry)) (now (results .entry))) ⌝ }
+    requires { ⌜ Ready (jobsOf algebra n (now sizes) (now weights)) (span .to) (now edges) (now planes) (now results) ⌝ }
+    requires { ⌜ span .from ≤ span .to ⌝ }
+    ensures { λ _. ⌜ arrayOf n (now (planes .exit)) (now (results .exit))
+        ≡ ticksOf (jobsOf algebra n (now (sizes .entry)) (now (weights .entry))) (span .from) (span .to - span .from)
+        (arrayOf n (now (planes .entry)) (now (results .entry))) ⌝ }
 {
     let mut starts = [0usize; 16];
     mark(sizes, &mut starts);
-    ticks(
-        algebra,
-        n,
-        from,
-        count,
-        sizes,
-        &starts,
-        weights,
-        c,
-        a,
-        b,
-        results,
-    );
+    let to = span.to;
+    let mut t = span.from;
+    while t < to {
+        let stage = stage_at(n, t, sizes, &starts);
+        tick(algebra, n, stage, sizes, weights, edges, planes, results);
+        t += 1;
+    }
 }

@@ -2,12 +2,16 @@
 //! table. A benchmark, and no test.
 //!
 //! "rust" is the same algorithm in safe Rust; "other" is SSE2 by hand for the elimination, and the plain model of the
-//! array, cell by cell, for the array and the bench. No buffer is cleared between rounds; each contender writes its
-//! whole result.
+//! array, cell by cell, for the bench. No buffer is cleared between rounds; each contender writes its whole result.
+//!
+//! An array has 16 jobs of its own order or, where the row says so, of one point, which leaves little to read. It is
+//! started once a round and run to its end, in one run or in runs of one tick each: every run of ours makes its tests,
+//! and in reach test 5 reads all weights. The row-wise array in Rust makes no test.
 //!
 //! Where sizes are named, `benchmark SIZE..`, the elimination alone is timed, at those.
 
 use reference::algebra::Algebra;
+use reference::bench::array_times::array_times;
 use reference::bench::row_sheet::row_sheet;
 use reference::bench::sheet::sheet;
 use reference::bench::sheet_call::{self, PAGE};
@@ -19,6 +23,7 @@ use reference::elimination::sse2;
 use reference::elimination::tables::{table, Kind};
 use reference::job_text::JobList;
 use reference::random::Random;
+use reference::systolic::state::total;
 use reference::texts::lists::{list, Sizes};
 use reference::texts::writing::{text, Freedom};
 use reference::ways::judge::judge;
@@ -35,11 +40,13 @@ const WAY_SIZES: [usize; 3] = [8, 32, MAX_SIZE];
 const WAY_ROUNDS: usize = 2;
 /// Order, and size of each of the 16 jobs.
 const LISTS: [(usize, usize); 3] = [(8, 8), (16, 16), (32, 32)];
+const ARRAYS: [(usize, usize); 6] = [(8, 8), (16, 16), (31, 31), (32, 32), (31, 1), (32, 1)];
+const SINGLE_TICKS: [(usize, usize); 4] = [(31, 31), (32, 32), (31, 1), (32, 1)];
 
 fn main() {
     let mut random = Random::new(SEED);
     println!(
-        "{:<12}{:>5}  {:<9}{:>11}{:>11}{:>11}{:>11}{:>11}  unit",
+        "{:<26}{:>5}  {:<9}{:>11}{:>11}{:>11}{:>11}{:>11}  unit",
         "what", "size", "algebra", "ours", "rust", "other", "ours/rust", "ours/other"
     );
     let named = sizes_named();
@@ -56,22 +63,17 @@ fn main() {
     if !named.is_empty() {
         return;
     }
-    for algebra in Algebra::ALL {
-        // Jobs of one point: the array works on all its cells, and there is next to nothing to read and print.
-        let steps = (4 * 32 * 16 + 2 * 32 - 2) * 32 * 32;
-        let jobs = jobs_of(&mut random, algebra, 32, 1);
-        sheets(
-            &mut random,
-            "array",
-            &jobs,
-            steps as f64,
-            "ns a cell and tick",
-        );
+    for (order, size) in ARRAYS {
+        arrays(&mut random, "array", order, size, 65535);
+    }
+    for (order, size) in SINGLE_TICKS {
+        arrays(&mut random, "one tick a run", order, size, 1);
     }
     for (order, size) in LISTS {
         for algebra in Algebra::ALL {
-            let jobs = jobs_of(&mut random, algebra, order, size);
-            sheets(&mut random, "bench", &jobs, 1000.0, "us a text");
+            // Words short enough for a text.
+            let jobs = jobs_of(&mut random, algebra, order, size, Kind::SmallWords);
+            sheets(&mut random, &jobs);
         }
     }
     for size in WAY_SIZES {
@@ -105,7 +107,7 @@ fn row(what: &str, size: usize, algebra: Algebra, times: &[f64], unit: &str) {
         None => format!("{:>11}", "-"),
     });
     let (algebra, columns) = (algebra.name(), columns.concat());
-    println!("{what:<12}{size:>5}  {algebra:<9}{columns}  {unit}");
+    println!("{what:<26}{size:>5}  {algebra:<9}{columns}  {unit}");
 }
 
 /// As many tables as fill the place of the largest, so that every size meets the same caches.
@@ -198,14 +200,34 @@ fn over_pairs(hall: &Hall, search: Search, look: impl Fn(usize, usize, Result<&[
     }
 }
 
-/// 16 jobs of one size, with words short enough for a text.
-fn jobs_of(random: &mut Random, algebra: Algebra, order: usize, size: usize) -> JobList {
-    let mut jobs = list(random, algebra, size, 16, Sizes::Full, &[Kind::SmallWords]);
+/// 16 jobs of one size.
+fn jobs_of(
+    random: &mut Random,
+    algebra: Algebra,
+    order: usize,
+    size: usize,
+    kind: Kind,
+) -> JobList {
+    let mut jobs = list(random, algebra, size, 16, Sizes::Full, &[kind]);
     jobs.order = order as u16;
     jobs
 }
 
-fn sheets(random: &mut Random, what: &str, jobs: &JobList, scale: f64, unit: &str) {
+/// In runs of `allowance` ticks, in all algebras.
+fn arrays(random: &mut Random, what: &str, order: usize, size: usize, allowance: u16) {
+    let what = match size {
+        1 => format!("{what}, 1 point"),
+        _ => what.to_string(),
+    };
+    for algebra in Algebra::ALL {
+        let jobs = jobs_of(random, algebra, order, size, Kind::FullRange);
+        let steps = (total(order, 16) * order * order) as f64;
+        let times = array_times(&jobs, allowance).map(|time| time / steps);
+        row(&what, order, algebra, &times, "ns a cell and tick");
+    }
+}
+
+fn sheets(random: &mut Random, jobs: &JobList) {
     let text = text(random, Freedom(0), jobs);
     let mut page = vec![0; PAGE];
     let length = sheet_call::print(&text, &mut page);
@@ -219,11 +241,12 @@ fn sheets(random: &mut Random, what: &str, jobs: &JobList, scale: f64, unit: &st
         Box::new(|| assert_eq!(row_sheet(black_box(&text)).len(), length)),
         Box::new(|| assert_eq!(sheet(black_box(&text)).len(), length)),
     ]);
+    let times = times.map(|time| time / 1000.0);
     row(
-        what,
+        "bench",
         jobs.order.into(),
         jobs.algebra,
-        &times.map(|time| time / scale),
-        unit,
+        &times,
+        "us a text",
     );
 }

@@ -3,12 +3,12 @@
 
 use crate::elimination::eliminate;
 use crate::job_text::JobList;
+use crate::systolic::state::total;
 use crate::systolic::{Leaving, Outcome};
 
 /// Says what is wrong with the outcome.
 pub fn check(list: &JobList, outcome: &Outcome) -> Result<(), String> {
-    let (n, q) = (usize::from(list.order), list.sizes.len());
-    let total = 4 * n * q + 2 * n - 2;
+    let total = total(list.order.into(), list.sizes.len());
     if outcome.ticks != total {
         return Err(format!("{} ticks made, wanted {total}", outcome.ticks));
     }
@@ -44,7 +44,7 @@ fn wanted_leavings(list: &JobList) -> Vec<Leaving> {
 }
 
 /// Each job eliminated by itself and not padded.
-fn eliminations(list: &JobList) -> Vec<u16> {
+pub fn eliminations(list: &JobList) -> Vec<u16> {
     let jobs = list.jobs().into_iter();
     jobs.flat_map(|(size, weights)| eliminate(list.algebra, size, weights))
         .collect()

@@ -7,13 +7,14 @@ use Rattle.semiring.specs.declared.Algebra.{Algebra}
 use Rattle.job_list.specs.Jobs.{wordsOf, jobsOf}
 use Rattle.job_list.specs.Fits.{ListFits}
 use Rattle.systolic.specs.Tick.{Array, ticks}
-use Rattle.systolic.specs.State.{orderOf, algebraOf, countOf, tickOf, planesOf, stateWords, stateLength, total}
+use Rattle.systolic.specs.State.{orderOf, algebraOf, countOf, tickOf, planesOf, stateWords, stateLength, scratchLength, total}
 use Rattle.array.specs.declared.head.Header.{Header}
 use Rattle.array.specs.inner.Header.{headerOf}
 
-pub record Runnable (a : Algebra) (h : Header) (made : ℕ) (sizes weights state results : List ℕ) : Type 0 where
+pub record Runnable (a : Algebra) (h : Header) (made : ℕ) (sizes weights scratch state results : List ℕ) : Type 0 where
   pub header : h ≡ headerOf state
   pub state-fits : length state ≡ stateLength (h .order)
+  pub scratch-fits : length scratch ≡ scratchLength (h .order)
   pub list : ListFits (jobsOf a (h .order) sizes weights)
   pub weights-fit : length weights ≡ wordsOf sizes
   pub results-fit : length results ≡ wordsOf sizes

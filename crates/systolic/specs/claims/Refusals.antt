@@ -37,14 +37,14 @@ pub data Unfit (state : List ℕ) : Type 0 where
   other-length : (length state ≡ 4 + 3 * (orderOf state * orderOf state) → ⊥) → Unfit state
   tick-above : 4 * orderOf state * countOf state + 2 * orderOf state - 2 < tickOf state → Unfit state
 
--- "10 ..; 11 sizes not Q many; 8; 3; 12 scratch length; 4 results not the sum of n²; 5"; "Scratch has 2N² words"
+-- "10 ..; 11 sizes not Q many; 8; 3; 12 scratch length; 4 results not the sum of n²; 5"; document 02, K5: "Test 12 looks for 2N words"
 unfoldable pub runConditions : List ℕ → List ℕ → List ℕ → List ℕ → List ℕ → Conditions
 runConditions state sizes weights scratch results =
     test (Unfit state) 10
     (test (length sizes ≡ countOf state → ⊥) 11
     (test (Some (Outside 1 (orderOf state)) sizes) 8
     (test (length weights ≡ wordsOf sizes → ⊥) 3
-    (test (length scratch ≡ 2 * (orderOf state * orderOf state) → ⊥) 12
+    (test (length scratch ≡ 2 * orderOf state → ⊥) 12
     (test (length results ≡ wordsOf sizes → ⊥) 4
     (test (ReachAbove (algebraOf state) weights) 5
     otherwise))))))

@@ -1,6 +1,7 @@
--- `proceed` meets its contract: a room for 32 squared words has a plane of any order in range at its front.
+-- `proceed` meets its contract: the planes are lent as they stand in the state, the ticks are made of them, and the next header stands before
+-- what they leave.
 use borrow.Author.Needs.{needs}
-use Rattle.array.proofs.Split.{front-room, front, fronts}
+use Rattle.array.proofs.Lending.{tick-room, ready, tick-fits, head-long, run-left}
 use Rattle.array.proofs.running.proceed.Statement.{statement}
 use Rattle.array.proofs.running.proceed.Tie as tie
 
@@ -8,21 +9,18 @@ pub proceed-spec : {M : Type 1} → statement M
 proceed-spec =
     tie.close
     (tie.spec
-    -- the rooms
-    (λ c κs. search needs)
-    (λ c κs. search needs)
-    (λ c κs. search needs)
     (λ c. search needs)
     (λ c. search needs)
-    -- the planes at their fronts
-    (λ c. search front-room)
-    (λ c. search front)
-    (λ c. search front-room)
-    (λ c. search front)
-    (λ c. search front-room)
-    (λ c. search front)
-    -- the run
-    (λ c κs. search fronts)
+    (λ c. search tick-room)
+    -- the planes
     (λ c. search needs)
     (λ c. search needs)
-    (λ c. search needs))
+    (λ c. search needs)
+    (λ c κs. search (ready, needs))
+    -- the header
+    (λ c κs. search tick-fits)
+    (λ c κs. search head-long)
+    (λ c. search needs)
+    (λ c. search needs)
+    (λ c. search needs)
+    (λ c. search run-left depth 9))

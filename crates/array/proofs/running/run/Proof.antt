@@ -13,8 +13,7 @@ use Rattle.array.specs.declared.head.Header.{Header}
 use Rattle.array.specs.declared.running.RunAnswer.{RunAnswer}
 use Rattle.array.specs.RunAnswer.{runNumber, runMade, Answered}
 use Rattle.array.proofs.Answers.{HeaderFits, header-fits}
-use Rattle.array.proofs.RunNeeds.{run-tests, testOf, Before, unfit, refused, accepted, sizes-room, runnable}
-use Rattle.array.proofs.Rooms.{area-room, scratch-room}
+use Rattle.array.proofs.RunNeeds.{run-tests, testOf, Before, unfit, refused, accepted, cleared, sizes-room, runnable}
 use Rattle.array.proofs.running.run.Statement.{statement}
 use Rattle.array.proofs.running.run.Tie as tie
 
@@ -89,7 +88,7 @@ made c =
     let l : tie.After-ticks-left = search in
     let k = known l in
     accepted (fit k) (sizes k) (weights k) (allowance k) (scratch k) (results k) (passed l) (s .smaller .ensures) (l .ticks-left .ensures)
-    (went .proceed .ensures) (end .clear .ensures)
+    (went .proceed .ensures) (search (cleared, end .clear .ensures, went .proceed .kept))
 
 pub run-spec : {M : Type 1} → statement M
 unfolding start
@@ -120,10 +119,9 @@ run-spec =
     (λ c. search needs)
     (λ c. let k : Known = search in turned k refl refl (search (run-tests, c .if3 .taken)) (search run-tests depth 12))
     -- the scratch
-    (λ c. let k : Known = search in area-room _ (fit k .ranged .most))
-    (λ c. let k : Known = search in scratch-room _ (fit k .ranged .most))
+    (λ c κs. let k : Known = search in fit k .ranged .most)
     (λ c. search needs)
-    (λ c. let k : Known = search in turned k refl refl (differ _ _ (c .if4 .taken)) (search run-tests depth 12))
+    (λ c. let k : Known = search in turned k refl refl (search (run-tests, c .if4 .taken)) (search run-tests depth 12))
     -- the results
     (λ c. search needs)
     (λ c. let k : Known = search in turned k refl refl (search (run-tests, c .if5 .taken)) (search run-tests depth 12))

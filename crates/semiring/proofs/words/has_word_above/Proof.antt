@@ -14,6 +14,6 @@ has-word-above-spec =
     (λ c κs. search needs)
     (λ c. search needs)
     (λ c. search needs)
-    (λ c. rw (c .before .enum-told .given .1) (c .above .ensures))
+    (λ c. rw (c .before .enum-told .given .1) (c .above-reach .ensures))
     (λ c. rw (c .enum-told2 .given .1) (sym (none-above _ _ (λ p h. omega (arith, c .before .before .shared-slice-known .given p)))))
     (λ c. rw (c .enum-told3 .given .1) (sym (none-above _ _ (λ p h. omega (arith, c .before .before .shared-slice-known .given p))))))

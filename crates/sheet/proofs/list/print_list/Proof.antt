@@ -1,6 +1,6 @@
 -- `print_list` meets its contract: the rooms are as long as the largest array asks, and their parts as long as this one does.
 use borrow.Author.Needs.{needs}
-use Rattle.sheet.proofs.Memory.{area-room, planes-room, state-room, scratch-room, state-within, scratch-within, results-within, state-part, scratch-part, results-part, lent}
+use Rattle.sheet.proofs.Memory.{area-room, planes-room, state-room, order-most, state-within, scratch-within, results-within, state-part, scratch-part, results-part, lent}
 use Rattle.sheet.proofs.list.print_list.Statement.{statement}
 use Rattle.sheet.proofs.list.print_list.Tie as tie
 
@@ -14,8 +14,7 @@ print-list-spec =
     (λ c. search area-room)
     (λ c. search planes-room)
     (λ c. search state-room)
-    (λ c. search area-room)
-    (λ c. search scratch-room)
+    (λ c κs. search order-most)
     (λ c. search state-within)
     (λ c. search state-part)
     (λ c. search scratch-within)

@@ -1,0 +1,46 @@
+// The calls for other languages.
+ghost use Rattle.systolic.specs.Run.{ran};
+ghost use Rattle.array.specs.Host.{StartedHost, RanHost};
+use crate::running::run;
+use crate::running::run_number;
+use crate::running::ticks_made;
+use crate::starting::start;
+use crate::starting::start_number;
+
+// It returns 0, or the refusal's number, and then leaves the state as it was.
+#[no_mangle]
+pub extern "C" fn array_start(
+    algebra: u32,
+    order: usize,
+    sizes: &[u16],
+    weights: &[u16],
+    state: &mut [u16],
+) -> u32
+    ensures { λ r. ⌜ StartedHost r algebra order (now (sizes .entry)) (now (weights .entry)) (now (state .entry)) (now (state .exit)) ⌝ }
+{
+    let answer = start(algebra, order, sizes, weights, state);
+    start_number(answer)
+}
+
+// It returns 0 and writes the ticks made, or returns the refusal's number, and then leaves all as it was.
+#[no_mangle]
+pub extern "C" fn array_run(
+    state: &mut [u16],
+    sizes: &[u16],
+    weights: &[u16],
+    allowance: u16,
+    scratch: &mut [u16],
+    results: &mut [u16],
+    made: &mut u16,
+) -> u32
+    ensures { λ r. ⌜ RanHost r (now (made .entry)) (now (made .exit)) (now (state .exit)) (now (scratch .exit)) (now (results .exit))
+        (ran (now (state .entry)) (now (sizes .entry)) (now (weights .entry)) allowance (now (scratch .entry)) (now (results .entry))) ⌝ }
+{
+    let answer = run(state, sizes, weights, allowance, scratch, results);
+    let number = run_number(answer);
+    if number != 0 {
+        return number;
+    }
+    *made = ticks_made(answer);
+    0
+}

@@ -1,0 +1,24 @@
+-- Where the jobs lie in the list's weights and in the results.
+use Prim.Native.Nat.{ℕ, _+_, _*_, _<_, _≤_}
+use mathlib.Core.Path.{_≡_}
+use mathlib.Core.List.{List}
+use mathlib.Core.Bool.{true, false}
+use lib.ListN.{length, getD}
+use Rattle.job_list.specs.Jobs.{offset, wordsOf}
+use Rattle.turns.specs.Turn.{live, jobIn}
+use Rattle.ticks.specs.declared.jobs.Job.{Job}
+
+-- Where the jobs' parts begin.
+pub record Listed (sizes starts : List ℕ) : Type 0 where
+  pub few : length sizes ≤ 16
+  pub room : length sizes ≤ length starts
+  pub start : (q : ℕ) → q < length sizes → getD starts q 0 ≡ offset sizes q
+  pub words : wordsOf sizes ≤ 16384
+
+-- The job of a pass: its size and its part of the list's words. Where the pass is of none, a job of no points.
+pub record Found (sizes : List ℕ) (pass : ℕ) (job : Job) : Type 0 where
+  pub end : job .end ≡ job .start + job .size * job .size
+  pub within : job .end ≤ wordsOf sizes
+  pub size : live (length sizes) pass ≡ true → job .size ≡ getD sizes (jobIn pass) 0
+  pub start : live (length sizes) pass ≡ true → job .start ≡ offset sizes (jobIn pass)
+  pub idle : live (length sizes) pass ≡ false → job .size ≡ 0

@@ -1,0 +1,15 @@
+-- What stands in an array of order n on tick t of a list of jobs.
+use Prim.Native.Nat.{ℕ, _+_, _-_, _*_}
+use mathlib.Core.Path.{_≡_}
+use mathlib.Core.List.{List}
+use lib.ListN.{length}
+use Rattle.turns.specs.Turn.{Head, stepOf}
+use Rattle.ticks.specs.declared.stage.Stage.{Stage}
+use Rattle.ticks.specs.Found.{Found}
+
+pub record Staged (n t : ℕ) (sizes : List ℕ) (s : Stage) : Type 0 where
+  pub tick : s .tick ≡ t
+  pub head : Head n (length sizes) (s .head)
+  pub step : stepOf n (s .head) ≡ t + 4 * n
+  pub front : Found sizes (s .head .pass) (s .front)
+  pub back : Found sizes (s .head .pass - 2) (s .back)

@@ -1,0 +1,282 @@
+//! Holds the proved calls Start and Run, through their C calls, against the reference: after every call its answer, and
+//! every word of state, results, scratch and ticks made. Lists of all orders are started and run in pieces of any
+//! length, with refused calls between, and states that nobody started are run as well. Ends with status 1 at the first
+//! difference, and where a kind of call was met too seldom.
+
+use reference::algebra::Algebra;
+use reference::elimination::tables::Kind;
+use reference::job_text::{JobList, MAX_JOBS};
+use reference::random::Random;
+use reference::systolic::checks::eliminations;
+use reference::systolic::damage_sets::damage_sets;
+use reference::systolic::lending::{run_both_ways, start_both_ways};
+use reference::systolic::memory::{RunCall, StartCall};
+use reference::systolic::moments::{allowance, alter, any_list, any_words, Pace};
+use reference::systolic::moments::{right_run, right_start};
+use reference::systolic::run_damages::{damage_run, RunDamage};
+use reference::systolic::start_damages::{damage_start, StartDamage};
+use reference::systolic::state::Header;
+use reference::systolic::tally::{RunKind, Tally};
+use reference::texts::lists::{list, Sizes};
+use std::process::exit;
+
+const SEED: u64 = 0x5EED_0F0A_7AB1_E005;
+/// For each algebra.
+const LISTS: usize = 9_000;
+/// For each algebra and of each order, with most jobs; the first of them a tick at a time.
+const LARGE_LISTS: usize = 40;
+const LARGE_ORDERS: [usize; 2] = [31, 32];
+const LARGE_SINGLE: usize = 4;
+/// More than a list a tick at a time has ticks.
+const MOST_RUNS: usize = 3_000;
+
+struct Comparison {
+    random: Random,
+    tally: Tally,
+    case: usize,
+    /// In the case.
+    calls: usize,
+}
+
+fn main() {
+    let mut comparison = Comparison {
+        random: Random::new(SEED),
+        tally: Tally::default(),
+        case: 0,
+        calls: 0,
+    };
+    comparison.compare_lists();
+    comparison.compare_start_damages();
+    comparison.compare_run_damages();
+    let tally = &comparison.tally;
+    let enough = print_tally(tally);
+    let ([starts, starts_refused], [runs, runs_refused]) = (tally.starts(), tally.runs());
+    println!(
+        "compare_array: {} lists, {starts} starts and {starts_refused} refused, {runs} runs and {runs_refused} refused, 0 differences",
+        tally.lists()
+    );
+    if !enough {
+        exit(1);
+    }
+}
+
+/// Whether each kind of call was met often enough.
+fn print_tally(tally: &Tally) -> bool {
+    let mut enough = true;
+    for (kind, met, fewest) in tally.rows() {
+        let remark = match met < fewest {
+            true => format!("  too few: wanted {fewest}"),
+            false => String::new(),
+        };
+        println!("{kind:<40}{met:>8}{remark}");
+        enough &= met >= fewest;
+    }
+    enough
+}
+
+impl Comparison {
+    fn compare_lists(&mut self) {
+        for algebra in Algebra::ALL {
+            for _ in 0..LISTS {
+                let list = any_list(&mut self.random, algebra);
+                let paces = match list.order {
+                    0..=8 => &[Pace::Whole, Pace::Single, Pace::Pieces, Pace::Pieces][..],
+                    _ => &[Pace::Whole, Pace::Pieces],
+                };
+                let pace = self.random.pick(paces);
+                self.compare_list(&list, pace);
+            }
+            for order in LARGE_ORDERS {
+                self.compare_large_lists(algebra, order);
+            }
+        }
+    }
+
+    fn compare_large_lists(&mut self, algebra: Algebra, order: usize) {
+        for at in 0..LARGE_LISTS {
+            let random = &mut self.random;
+            let sizes = random.pick(&Sizes::ALL);
+            let list = list(random, algebra, order, MAX_JOBS, sizes, &Kind::ALL);
+            let pace = match at < LARGE_SINGLE {
+                true => Pace::Single,
+                false => self.random.pick(&[Pace::Whole, Pace::Pieces]),
+            };
+            self.compare_list(&list, pace);
+        }
+    }
+
+    /// Runs the list to its end and a little further, with refused runs and changes between.
+    fn compare_list(&mut self, list: &JobList, pace: Pace) {
+        self.next_case();
+        self.tally.count_list(list);
+        let (refused, altered) = match pace {
+            Pace::Single => (30, 300),
+            _ => (4, 12),
+        };
+        let mut call = right_run(&mut self.random, list);
+        let mut changed = self.random.one_in(4);
+        if !changed {
+            self.start(list, &mut call);
+        }
+        let (mut runs_after, mut number) = (self.random.between(1, 3), 0);
+        for runs in 0..MOST_RUNS {
+            if self.random.one_in(refused) {
+                self.compare_refused(&call);
+            }
+            // A change may have made the jobs unfit for the state's algebra.
+            if number != 0 || self.random.one_in(altered) {
+                alter(&mut self.random, &mut call);
+                changed = true;
+            }
+            number = self.run_on(&mut call, pace, changed);
+            if call.header().ticks_left() == 0 {
+                if runs_after == 0 {
+                    self.check_ended(list, &call, changed, runs);
+                    return;
+                }
+                runs_after -= 1;
+            }
+        }
+    }
+
+    /// A state of any words, perhaps after calls that are refused.
+    fn start(&mut self, list: &JobList, call: &mut RunCall) {
+        let mut start = right_start(&mut self.random, list);
+        if self.random.one_in(3) {
+            let damage = self.random.pick(&StartDamage::ALL);
+            if damage != StartDamage::Word || list.algebra == Algebra::Reach {
+                self.compare_damaged_start(start.clone(), &[damage]);
+            }
+        }
+        self.compare_start(&mut start);
+        call.state = start.state;
+    }
+
+    fn run_on(&mut self, call: &mut RunCall, pace: Pace, changed: bool) -> u32 {
+        call.allowance = allowance(&mut self.random, pace, call);
+        call.scratch = any_words(&mut self.random, call.scratch.len());
+        call.made = self.random.word();
+        self.compare_run(call, changed)
+    }
+
+    /// What was started and only run holds the eliminations at its end.
+    fn check_ended(&mut self, list: &JobList, call: &RunCall, changed: bool, runs: usize) {
+        if changed {
+            return;
+        }
+        if call.results != eliminations(list) {
+            self.fail("the reference contradicts itself: the results are not the eliminations");
+        }
+        if runs > 1 {
+            self.tally.count_untouched();
+        }
+    }
+
+    /// One or two damages to a copy of the run.
+    fn compare_refused(&mut self, call: &RunCall) {
+        let in_reach = call.header().algebra == Algebra::Reach;
+        let fit = RunDamage::ALL.into_iter();
+        let fit: Vec<RunDamage> = fit
+            .filter(|&damage| damage != RunDamage::Word || in_reach)
+            .collect();
+        let damages = [self.random.pick(&fit), self.random.pick(&fit)];
+        let count = self.random.between(1, 2);
+        self.compare_damaged_run(call.clone(), &damages[..count]);
+    }
+
+    fn compare_start_damages(&mut self) {
+        for damages in damage_sets(&mut self.random, &StartDamage::ALL) {
+            self.next_case();
+            let algebra = self.algebra_for(damages.contains(&StartDamage::Word));
+            let list = any_list(&mut self.random, algebra);
+            let call = right_start(&mut self.random, &list);
+            self.compare_damaged_start(call, &damages);
+        }
+    }
+
+    fn compare_run_damages(&mut self) {
+        for damages in damage_sets(&mut self.random, &RunDamage::ALL) {
+            self.next_case();
+            let algebra = self.algebra_for(damages.contains(&RunDamage::Word));
+            let list = any_list(&mut self.random, algebra);
+            let call = right_run(&mut self.random, &list);
+            self.compare_damaged_run(call, &damages);
+        }
+    }
+
+    /// Only reach has words that are refused.
+    fn algebra_for(&mut self, in_reach: bool) -> Algebra {
+        match in_reach {
+            true => Algebra::Reach,
+            false => self.random.pick(&Algebra::ALL),
+        }
+    }
+
+    fn compare_damaged_start(&mut self, mut call: StartCall, damages: &[StartDamage]) {
+        damage_start(&mut self.random, &mut call, damages);
+        let number = self.compare_start(&mut call);
+        let first = damages.iter().min().map(|damage| damage.number());
+        assert_eq!(Some(number), first, "the reference contradicts itself");
+    }
+
+    fn compare_damaged_run(&mut self, mut call: RunCall, damages: &[RunDamage]) {
+        let order = call.header().order;
+        damage_run(&mut self.random, &mut call, damages);
+        let scratch_len = call.scratch.len();
+        let number = self.compare_run(&mut call, true);
+        let first = damages.iter().min().map(|damage| damage.number());
+        assert_eq!(Some(number), first, "the reference contradicts itself");
+        if let [damage] = damages {
+            self.tally.count_damage(*damage, order, scratch_len);
+        }
+    }
+
+    /// The number returned, with the memory in `call` as both leave it.
+    fn compare_start(&mut self, call: &mut StartCall) -> u32 {
+        self.calls += 1;
+        match start_both_ways(&mut self.random, call) {
+            Ok(number) => {
+                self.tally.count_start(number);
+                number
+            }
+            Err(what) => {
+                let (algebra, order, jobs) = (call.algebra, call.order, call.jobs.sizes.len());
+                self.fail(&format!(
+                    "Start, algebra {algebra}, order {order}, {jobs} jobs: {what}"
+                ))
+            }
+        }
+    }
+
+    /// So too. `changed` says that the memory is not as Start and runs alone left it.
+    fn compare_run(&mut self, call: &mut RunCall, changed: bool) -> u32 {
+        self.calls += 1;
+        let (header, kind) = (Header::read(&call.state), RunKind::of(call, changed));
+        match run_both_ways(&mut self.random, call) {
+            Ok(number) => {
+                match kind {
+                    Some(kind) if number == 0 => self.tally.count_run(&kind),
+                    _ => self.tally.count_refused_run(number),
+                }
+                number
+            }
+            Err(what) => {
+                let (allowance, sizes) = (call.allowance, &call.jobs.sizes);
+                self.fail(&format!(
+                    "Run, {header:?}, allowance {allowance}, sizes {sizes:?}: {what}"
+                ))
+            }
+        }
+    }
+
+    fn next_case(&mut self) {
+        self.case += 1;
+        self.calls = 0;
+    }
+
+    fn fail(&self, what: &str) -> ! {
+        let (case, calls) = (self.case, self.calls);
+        println!("compare_array: seed {SEED:#x}, case {case}, call {calls}: {what}");
+        exit(1)
+    }
+}

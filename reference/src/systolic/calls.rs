@@ -1,0 +1,44 @@
+//! The calls Start and Run, as "Start and run" in document 01 and K5 of document 02 state them, on lent memory.
+
+use crate::systolic::cell_rule::Array;
+use crate::systolic::refusal::{run_refusal, start_refusal};
+use crate::systolic::state::Header;
+use crate::systolic::Jobs;
+
+/// Returns 0, or the number of the refusal.
+pub fn start(algebra: u32, order: usize, jobs: Jobs, state: &mut [u16]) -> u32 {
+    let number = start_refusal(algebra, order, jobs, state.len());
+    if number == 0 {
+        state.fill(0);
+        state[..3].copy_from_slice(&[order as u16, algebra as u16, jobs.sizes.len() as u16]);
+    }
+    number
+}
+
+/// Returns 0 and writes the ticks made to `made`, or returns the number of the refusal.
+pub fn run(
+    state: &mut [u16],
+    jobs: Jobs,
+    allowance: u16,
+    scratch: &mut [u16],
+    results: &mut [u16],
+    made: &mut u16,
+) -> u32 {
+    let number = run_refusal(state, jobs, scratch.len(), results.len());
+    if number != 0 {
+        return number;
+    }
+    let header = Header::read(state).expect("the state is tested");
+    let ticks = header.ticks_left().min(allowance.into());
+    let end = header.tick + ticks;
+    let mut array = Array::new(header.order, header.algebra, jobs, &state[4..]);
+    for tick in header.tick..end {
+        array.tick(tick, results);
+    }
+    state[3] = end as u16;
+    state[4..].copy_from_slice(&array.planes());
+    // The rule needs none of it, but it is left zero, also where no tick is made.
+    scratch.fill(0);
+    *made = ticks as u16;
+    0
+}

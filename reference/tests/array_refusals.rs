@@ -1,0 +1,170 @@
+//! Where the reference's Start and Run turn back: a table of calls, and the order of the tests.
+
+use reference::algebra::Algebra::{self, Reach};
+use reference::random::Random;
+use reference::systolic::memory::{OwnJobs, RunCall, StartCall};
+use reference::systolic::moments::{alter, any_list, right_run, right_start};
+use reference::systolic::refusal::{RUN_NUMBERS, START_NUMBERS};
+use reference::systolic::run_damages::{damage_run, RunDamage};
+use reference::systolic::start_damages::{damage_start, StartDamage};
+
+/// A number, and what is done to a right call for it.
+type Case<Call> = (u32, fn(&mut Call));
+
+/// Of order 2 in reach, with jobs of sizes 1 and 2, whose words are 1.
+const STARTS: [Case<StartCall>; 15] = [
+    (0, |_| {}),
+    (0, |call| call.jobs = many(16)),
+    (0, |call| {
+        call.algebra = 1;
+        call.jobs.weights[4] = 65535;
+    }),
+    (1, |call| call.algebra = 3),
+    (6, |call| call.order = 0),
+    (6, |call| call.order = 33),
+    (7, |call| call.jobs = many(0)),
+    (7, |call| call.jobs = many(17)),
+    (8, |call| call.jobs.sizes[0] = 0),
+    (8, |call| call.jobs.sizes[1] = 3),
+    (3, |call| call.jobs.weights.truncate(4)),
+    (3, |call| call.jobs.weights.push(0)),
+    (9, |call| call.state.truncate(15)),
+    (9, |call| call.state.push(0)),
+    (5, |call| call.jobs.weights[4] = 2),
+];
+
+#[test]
+fn starts_are_refused() {
+    for (at, (number, damage)) in STARTS.into_iter().enumerate() {
+        let mut call = StartCall {
+            algebra: 0,
+            order: 2,
+            jobs: two_jobs(),
+            state: vec![9; 16],
+        };
+        damage(&mut call);
+        let before = call.clone();
+        assert_eq!(call.make(), number, "case {at}");
+        assert_eq!(call.state == before.state, number != 0, "case {at}");
+    }
+}
+
+fn two_jobs() -> OwnJobs {
+    OwnJobs {
+        sizes: vec![1, 2],
+        weights: vec![1; 5],
+    }
+}
+
+/// So many jobs of one point.
+fn many(jobs: usize) -> OwnJobs {
+    OwnJobs {
+        sizes: vec![1; jobs],
+        weights: vec![1; jobs],
+    }
+}
+
+/// Runs of that list, which has 18 ticks.
+const RUNS: [Case<RunCall>; 30] = [
+    (0, |_| {}),
+    (0, |call| call.allowance = 0),
+    (0, |call| call.state[3] = 18),
+    (0, |call| call.state[1] = 2),
+    (10, |call| call.state.clear()),
+    (10, |call| call.state.truncate(3)),
+    (10, |call| call.state.truncate(4)),
+    (10, |call| call.state.truncate(15)),
+    (10, |call| call.state.push(0)),
+    (10, |call| call.state[0] = 0),
+    (10, |call| call.state[0] = 1),
+    (10, |call| {
+        call.state[0] = 33;
+        call.state.resize(4 + 3 * 33 * 33, 0);
+    }),
+    (10, |call| call.state[1] = 3),
+    (10, |call| call.state[2] = 0),
+    (10, |call| call.state[2] = 17),
+    (10, |call| call.state[3] = 19),
+    (11, |call| call.state[2] = 3),
+    (11, |call| call.jobs.sizes.truncate(1)),
+    (11, |call| call.jobs.sizes.push(0)),
+    (8, |call| call.jobs.sizes[0] = 0),
+    (8, |call| call.jobs.sizes[1] = 3),
+    (3, |call| call.jobs.weights.truncate(4)),
+    (3, |call| call.jobs.weights.push(0)),
+    (12, |call| call.scratch.clear()),
+    (12, |call| call.scratch.truncate(3)),
+    (12, |call| call.scratch.push(0)),
+    (12, |call| call.scratch.resize(8, 7)),
+    (4, |call| call.results.truncate(4)),
+    (4, |call| call.results.push(7)),
+    (5, |call| call.jobs.weights[4] = 2),
+];
+
+#[test]
+fn runs_are_refused() {
+    for (at, (number, damage)) in RUNS.into_iter().enumerate() {
+        let mut call = RunCall {
+            state: [&[2, 0, 2, 0][..], &[0; 12]].concat(),
+            jobs: two_jobs(),
+            allowance: 1,
+            scratch: vec![7; 4],
+            results: vec![7; 5],
+            made: 9,
+        };
+        damage(&mut call);
+        let before = call.clone();
+        assert_eq!(call.make(), number, "case {at}");
+        assert_eq!(call.difference(&before).is_none(), number != 0, "case {at}");
+    }
+}
+
+#[test]
+fn the_first_damage_of_a_start_is_the_refusal() {
+    let mut random = Random::new(13);
+    for (at, first) in StartDamage::ALL.into_iter().enumerate() {
+        assert_eq!(first.number(), START_NUMBERS[at]);
+        for &second in &StartDamage::ALL[at..] {
+            for _ in 0..60 {
+                let list = any_list(&mut random, Reach);
+                let mut call = right_start(&mut random, &list);
+                damage_start(&mut random, &mut call, &[first, second]);
+                assert_eq!(call.clone().make(), first.number(), "{call:?}");
+            }
+        }
+    }
+}
+
+#[test]
+fn the_first_damage_of_a_run_is_the_refusal() {
+    let mut random = Random::new(14);
+    let mut numbers: Vec<u32> = RunDamage::ALL.map(|damage| damage.number()).to_vec();
+    numbers.dedup();
+    assert_eq!(numbers, RUN_NUMBERS);
+    for (at, first) in RunDamage::ALL.into_iter().enumerate() {
+        for &second in &RunDamage::ALL[at..] {
+            for _ in 0..60 {
+                let list = any_list(&mut random, Reach);
+                let mut call = right_run(&mut random, &list);
+                damage_run(&mut random, &mut call, &[first, second]);
+                assert_eq!(call.clone().make(), first.number(), "{call:?}");
+            }
+        }
+    }
+}
+
+/// Undamaged, but for changes that leave a state: never refused but with 5.
+#[test]
+fn right_calls_are_accepted() {
+    let mut random = Random::new(15);
+    for _ in 0..300 {
+        let algebra = random.pick(&Algebra::ALL);
+        let list = any_list(&mut random, algebra);
+        assert_eq!(right_start(&mut random, &list).make(), 0);
+        let mut call = right_run(&mut random, &list);
+        assert_eq!(call.clone().make(), 0);
+        alter(&mut random, &mut call);
+        let number = call.make();
+        assert!(number == 0 || number == 5 && call.state[1] == 0);
+    }
+}
