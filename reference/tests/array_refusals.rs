@@ -168,3 +168,29 @@ fn right_calls_are_accepted() {
         assert!(number == 0 || number == 5 && call.state[1] == 0);
     }
 }
+
+/// A comparison that overlooks a word would pass anything there.
+#[test]
+fn every_difference_is_told() {
+    let mut random = Random::new(19);
+    let list = any_list(&mut random, Reach);
+    let right = right_run(&mut random, &list);
+    assert_eq!(right.difference(&right), None);
+    let changes: [fn(&mut RunCall); 5] = [
+        |call| call.made ^= 1,
+        |call| call.state[0] ^= 1,
+        |call| *call.state.last_mut().unwrap() ^= 1,
+        |call| *call.results.last_mut().unwrap() ^= 1,
+        |call| *call.scratch.last_mut().unwrap() ^= 1,
+    ];
+    for change in changes {
+        let mut wrong = right.clone();
+        change(&mut wrong);
+        assert!(wrong.difference(&right).is_some());
+    }
+    let start = right_start(&mut random, &list);
+    let mut wrong = start.clone();
+    *wrong.state.last_mut().unwrap() ^= 1;
+    assert_eq!(start.difference(&start), None);
+    assert!(wrong.difference(&start).is_some());
+}

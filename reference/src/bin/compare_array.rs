@@ -248,7 +248,7 @@ impl Comparison {
         }
     }
 
-    /// So too. `changed` says that the memory is not as Start and runs alone left it.
+    /// The same of a run. `changed` says that the memory is not as Start and runs alone left it.
     fn compare_run(&mut self, call: &mut RunCall, changed: bool) -> u32 {
         self.calls += 1;
         let (header, kind) = (Header::read(&call.state), RunKind::of(call, changed));

@@ -89,7 +89,7 @@ pub fn start(_: u32, _: usize, _: Jobs, _: &mut [u16]) -> u32 {
     panic!("{MISSING}")
 }
 
-/// So too.
+/// In such a build.
 #[cfg(not(array_archive))]
 pub fn run(_: &mut [u16], _: Jobs, _: u16, _: &mut [u16], _: &mut [u16], _: &mut u16) -> u32 {
     panic!("{MISSING}")

@@ -88,7 +88,7 @@ pub fn start_both_ways(random: &mut Random, call: &mut StartCall) -> Result<u32,
     judge(number, wanted_number, call.difference(&wanted))
 }
 
-/// So too.
+/// The same of a run.
 pub fn run_both_ways(random: &mut Random, call: &mut RunCall) -> Result<u32, String> {
     let mut wanted = call.clone();
     let wanted_number = wanted.make();
@@ -114,7 +114,7 @@ fn lend_start(random: &mut Random, call: &mut StartCall) -> Result<u32, String> 
     Ok(number)
 }
 
-/// So too.
+/// The same of a run.
 fn lend_run(random: &mut Random, call: &mut RunCall) -> Result<u32, String> {
     let jobs = WatchedJobs::new(random, &call.jobs);
     let mut state = Watched::new(random, &call.state);
@@ -135,4 +135,29 @@ fn lend_run(random: &mut Random, call: &mut RunCall) -> Result<u32, String> {
     call.results = results.taken_back("results")?;
     call.made = made.taken_back("ticks made")?[0];
     Ok(number)
+}
+
+#[cfg(test)]
+mod tests {
+    use super::*;
+
+    /// Every word beside a lent part is watched, and of a part that is only read every word.
+    #[test]
+    fn every_word_is_watched() {
+        let mut random = Random::new(18);
+        let untouched = Watched::new(&mut random, &[1, 2, 3]);
+        for at in 0..untouched.words.len() {
+            let mut touched = Watched {
+                words: untouched.words.clone(),
+                before: untouched.before.clone(),
+                lent: untouched.lent.clone(),
+            };
+            touched.words[at] ^= 1;
+            assert!(touched.stayed("part").is_err());
+            let inside = untouched.lent.contains(&at);
+            assert_eq!(touched.taken_back("part").is_ok(), inside);
+        }
+        assert_eq!(untouched.taken_back("part"), Ok(vec![1, 2, 3]));
+        assert!(untouched.stayed("part").is_ok());
+    }
 }

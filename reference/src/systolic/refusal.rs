@@ -31,7 +31,7 @@ pub fn start_refusal(algebra: u32, order: usize, jobs: Jobs, state_len: usize) -
     }
 }
 
-/// So too.
+/// The same for Run.
 pub fn run_refusal(state: &[u16], jobs: Jobs, scratch_len: usize, results_len: usize) -> u32 {
     let Some(header) = Header::read(state) else {
         return 10;

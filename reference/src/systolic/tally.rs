@@ -153,7 +153,7 @@ impl Tally {
         [self.starts, self.starts_refused.iter().sum()]
     }
 
-    /// So too.
+    /// Accepted and refused.
     pub fn runs(&self) -> [usize; 2] {
         [self.runs, self.runs_refused.iter().sum()]
     }
