@@ -6,6 +6,7 @@ pub mod algebra;
 pub mod bench;
 pub mod elimination;
 pub mod job_text;
+pub mod pairs;
 pub mod random;
 pub mod systolic;
 pub mod texts;

@@ -44,8 +44,12 @@ pub fn word_of(length: Option<u64>) -> u16 {
     }
 }
 
-/// Whether a table has a pair whose way is longer than its word says, and one without a way.
+/// Whether the way is longer than its word says.
+pub fn is_far(length: Option<u64>) -> bool {
+    length.is_some_and(|length| length > FAR)
+}
+
+/// Whether a table has a pair that is far, and one without a way.
 pub fn has_far_and_none(lengths: &[Option<u64>]) -> bool {
-    let far = |length: &Option<u64>| length.is_some_and(|length| length > FAR);
-    lengths.iter().any(far) && lengths.iter().any(Option::is_none)
+    lengths.iter().copied().any(is_far) && lengths.iter().any(Option::is_none)
 }

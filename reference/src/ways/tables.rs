@@ -71,7 +71,7 @@ pub fn layout(random: &mut Random, algebra: Algebra, size: usize, kind: Kind) ->
     Layout { links, order }
 }
 
-fn shuffled(random: &mut Random, size: usize) -> Vec<usize> {
+pub(crate) fn shuffled(random: &mut Random, size: usize) -> Vec<usize> {
     let mut order: Vec<usize> = (0..size).collect();
     for at in 1..size {
         order.swap(at, random.below(at + 1));

@@ -1,0 +1,4 @@
+pub mod Homomorphism
+pub mod Positive
+pub mod Support
+pub mod claims

@@ -1,0 +1,4 @@
+pub mod Maps
+pub mod Agreement
+pub mod Arrays
+pub mod Cards

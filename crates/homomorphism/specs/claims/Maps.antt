@@ -1,0 +1,41 @@
+-- Why reach agrees with distance and steepest (request K6): a homomorphism commutes with the elimination, and the support is one, from every
+-- algebra to reach.
+use Prim.Native.Nat.{ℕ, _+_, _<_, min}
+use mathlib.Core.Path.{_≡_}
+use mathlib.Core.Logic.{_≢_}
+use mathlib.Core.List.{List}
+use lib.ListN.{getD}
+use Rattle.semiring.specs.Algebra.{Word, noneOf, ownOf, sumOf, productOf}
+use Rattle.semiring.specs.declared.Algebra.{Algebra}
+use Rattle.semiring.specs.declared.Algebra.the-variants.{Reach, Distance}
+use Rattle.closure.specs.Table.{entries}
+use Rattle.closure.specs.Elimination.{closure}
+use Rattle.homomorphism.specs.Homomorphism.{Homomorphism}
+use Rattle.homomorphism.specs.Positive.{Positive}
+use Rattle.homomorphism.specs.Support.{support}
+
+-- Two tables that the map joins off the diagonal have eliminations that it joins at every entry.
+abbrev pub Commutes : Type 0
+Commutes =
+    (a b : Algebra) (f : ℕ → ℕ) → Homomorphism a b f
+    → (n : ℕ) (w v : List ℕ) → ((p : ℕ) → Word a (getD w p 0))
+    → ((i j : ℕ) → i < n → j < n → i ≢ j → entries n v i j ≡ f (entries n w i j))
+    → (i j : ℕ) → i < n → j < n → closure b n v i j ≡ f (closure a n w i j)
+
+abbrev pub Positive-algebras : Type 0
+Positive-algebras = (a : Algebra) → Positive (Word a) (sumOf a) (productOf a) (noneOf a) (ownOf a)
+
+-- So the support is a homomorphism.
+abbrev pub Support-kept : Type 0
+Support-kept = (a : Algebra) → Homomorphism a Reach (support a)
+
+-- Document 01's product of distance, before K4: "addition, held at 65535".
+abbrev pub productBefore : ℕ → ℕ → ℕ
+productBefore x y = min (x + y) 65535
+
+-- K6 needs K4: by the product of before, two links of 40000 in a row made 65535, which is none, where reach says 1.
+pub record NeedsK4 : Type 0 where
+  pub parted : support Distance (productBefore 40000 40000) ≢ productOf Reach (support Distance 40000) (support Distance 40000)
+  -- where nothing was held, and where the second word is none, the products are the same
+  pub same-below : (x y : ℕ) → x + y < 65535 → productBefore x y ≡ productOf Distance x y
+  pub same-none : (x : ℕ) → Word Distance x → productBefore x 65535 ≡ productOf Distance x 65535

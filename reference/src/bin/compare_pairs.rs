@@ -1,0 +1,78 @@
+//! Closes pairs of tables with the same links through the proved calls, one in reach and one in distance or steepest,
+//! and compares them: reach is 1 exactly where the other is not none. By the elimination, by two arrays, and one table
+//! each way. Ends with status 1 at the first difference, and where a kind of pair or of run was met too seldom.
+
+use reference::algebra::Algebra;
+use reference::pairs::calls::Proved;
+use reference::pairs::comparison::Comparison;
+use reference::pairs::tally::{Closing, Tally};
+use reference::random::Random;
+use reference::ways::tables::Kind;
+use reference::MAX_SIZE;
+use std::process::exit;
+
+const SEED: u64 = 0x5EED_0F0A_7AB1_E006;
+/// The algebras beside reach.
+const OTHERS: [Algebra; 2] = [Algebra::Distance, Algebra::Steepest];
+/// For each of these algebras: pairs beside the sweep over all sizes, and lists with pairs in common.
+const MORE_PAIRS: usize = 5_000;
+const TWO_LISTS: usize = 4_000;
+const MIXED_LISTS: usize = 2_000;
+
+fn main() {
+    let mut comparison = Comparison::new(Proved, Random::new(SEED));
+    if let Err(what) = compare(&mut comparison) {
+        println!("compare_pairs: seed {SEED:#x}, {what}");
+        exit(1);
+    }
+    let tally = &comparison.tally;
+    let enough = print_tally(tally);
+    let [by_elimination, by_arrays, mixed] = Closing::ALL.map(|closing| tally.pairs(closing));
+    println!(
+        "compare_pairs: {by_elimination} pairs closed by the elimination, {by_arrays} by arrays, {mixed} mixed, 0 differences"
+    );
+    if !enough {
+        exit(1);
+    }
+}
+
+/// Every size with every kind of words, then more pairs that are mostly small, then arrays.
+fn compare(comparison: &mut Comparison<Proved>) -> Result<(), String> {
+    for algebra in OTHERS {
+        for size in 1..=MAX_SIZE {
+            for kind in Kind::ALL {
+                comparison.by_elimination(algebra, size, kind)?;
+            }
+        }
+        for _ in 0..MORE_PAIRS {
+            let random = &mut comparison.random;
+            let largest = if random.one_in(16) { MAX_SIZE } else { 12 };
+            let (size, kind) = (random.between(1, largest), random.pick(&Kind::ALL));
+            comparison.by_elimination(algebra, size, kind)?;
+        }
+        for _ in 0..TWO_LISTS {
+            comparison.by_arrays(algebra)?;
+        }
+        for _ in 0..MIXED_LISTS {
+            comparison.mixed(algebra)?;
+        }
+    }
+    Ok(())
+}
+
+/// Whether each kind was met often enough.
+fn print_tally(tally: &Tally) -> bool {
+    println!("by the elimination, by arrays and mixed:");
+    let mut enough = true;
+    for (kind, met, fewest) in tally.rows() {
+        let [a, b, c] = met;
+        let short = met.iter().zip(&fewest).any(|(met, fewest)| met < fewest);
+        let remark = match short {
+            true => format!("  too few: wanted {fewest:?}"),
+            false => String::new(),
+        };
+        println!("{kind:<36}{a:>10}{b:>10}{c:>10}{remark}");
+        enough &= !short;
+    }
+    enough
+}
