@@ -8,7 +8,6 @@ use reference::pairs::lists::TwoLists;
 use reference::pairs::runs::leaving_tick;
 use reference::pairs::search::reached;
 use reference::pairs::tables::Pair;
-use reference::pairs::tally::Tally;
 use reference::random::Random;
 use reference::systolic::run;
 use reference::texts::lists::small_list;
@@ -203,13 +202,4 @@ fn other_links_are_found() {
         }
     }
     assert!(met.iter().all(|&met| met > 400), "{met:?}");
-}
-
-/// What was never met is too seldom, in each row.
-#[test]
-fn an_empty_tally_is_not_enough() {
-    for (kind, met, fewest) in Tally::default().rows() {
-        assert_eq!(met, [0; 3]);
-        assert_ne!(fewest, [0; 3], "{kind}");
-    }
 }

@@ -12,9 +12,10 @@ use Rattle.semiring.specs.declared.Named.{Named}
 use Rattle.semiring.specs.declared.Named.the-variants.{Known, Unknown}
 use Rattle.semiring.specs.declared.Algebra.{Algebra}
 use Rattle.semiring.specs.declared.Algebra.the-variants.{Reach}
-use Rattle.closure.specs.Elimination.{closure, eliminated}
+use Rattle.closure.specs.Elimination.{closure}
 use Rattle.closure.specs.Tests.{eliminationTests, resultAfter}
 use Rattle.closure.proofs.Accepted.{Accepted, accepted, accepted-result}
+use Rattle.closure.proofs.Equations.{eliminated-closure}
 use Rattle.closure.proofs.Holds.{rowByRow-holds}
 use Rattle.job_list.specs.Fits.{ListAccepted}
 use Rattle.job_list.specs.Jobs.{jobsOf}
@@ -66,7 +67,6 @@ result-agrees : (d : Named) (n : ℕ) (reach w r s : List ℕ)
     × (SameLinks a n reach w
     → (i j : ℕ) → i < n → j < n
     → Agree a (getD (resultAfter (Known Reach) n reach r) (i * n + j) 0) (getD (resultAfter d n w s) (i * n + j) 0))
-unfolding eliminated
 result-agrees Unknown n reach w r s e f = absurd (omega arith)
 result-agrees (Known a) n reach w r s e f = (
   a,
@@ -75,6 +75,8 @@ result-agrees (Known a) n reach w r s e f = (
       rw (
         accepted-result Reach n reach r e,
         accepted-result a n w s f,
+        eliminated-closure Reach n reach,
+        eliminated-closure a n w,
         rowByRow-holds n (closure Reach n reach) .word i j hi hj,
         rowByRow-holds n (closure a n w) .word i j hi hj,
       )

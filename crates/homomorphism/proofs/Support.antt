@@ -1,8 +1,8 @@
 -- The support is a homomorphism: none is neutral to the sum and makes every product none, and of two words that aren't none neither sum
 -- nor product is none.
-use Prim.Native.Nat.{ℕ, _+_, _<_, min, max}
+use Prim.Native.Nat.{ℕ, _+_, _≤_, _<_, min, max}
 use native.Mathlib.Omega.{arith}
-use native.Mathlib.Decide.{ℕ-discrete}
+use native.Mathlib.Decide.{decLt, ℕ-discrete}
 use mathlib.Core.Path.{_≡_, refl, sym, ap, _∙_}
 use mathlib.Core.Logic.{_≢_, inl, inr}
 use Rattle.semiring.specs.Algebra.{Word, noneOf, ownOf, sumOf, productOf}
@@ -10,7 +10,7 @@ use Rattle.semiring.specs.declared.Algebra.{Algebra}
 use Rattle.semiring.specs.declared.Algebra.the-variants.{Reach, Distance, Steepest}
 use Rattle.semiring.proofs.Laws.{laws, picks}
 use Rattle.semiring.proofs.Held.{sum-held}
-use borrow.Author.Tests.{eq-eqb, ne-eqb}
+use borrow.Author.Tests.{eq-eqb, ne-eqb, lt-ltb, le-ltb}
 use Rattle.homomorphism.specs.Support.{support}
 use Rattle.homomorphism.specs.claims.Maps.{Positive-algebras, Support-kept, NeedsK4}
 
@@ -34,10 +34,13 @@ positive a = record {
 pub needs-k4 : NeedsK4
 needs-k4 = record {
   parted = λ e. omega arith;
-  same-below = λ x y h.
-      let u : min (x + y) 65535 ≡ min (x + y) 65534 = omega arith in
-      u ∙ sym (sum-held {x = x} {y = y} (λ e. omega arith) (λ e. omega arith));
-  same-none = λ x v. let u : min (x + 65535) 65535 ≡ 65535 = omega arith in u ∙ sym (laws Distance .product-none v);
+  before = λ x y.
+      elim (decLt (x + y) 65535) [
+        | yes h ↦
+            let u : min (x + y) 65535 ≡ min (x + y) 65534 = omega arith in
+            rw (lt-ltb (x + y) 65535 h) (u ∙ sym (sum-held {x = x} {y = y} (λ e. omega arith) (λ e. omega arith)))
+        | no h ↦ let k : 65535 ≤ x + y = omega arith in rw (le-ltb (x + y) 65535 k) (omega arith)
+      ];
 }
 
 module _ (a : Algebra) where

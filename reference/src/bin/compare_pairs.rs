@@ -5,7 +5,7 @@
 use reference::algebra::Algebra;
 use reference::pairs::calls::Proved;
 use reference::pairs::comparison::Comparison;
-use reference::pairs::tally::{Closing, Tally};
+use reference::pairs::tally::{Closing, Row, Tally};
 use reference::random::Random;
 use reference::ways::tables::Kind;
 use reference::MAX_SIZE;
@@ -63,16 +63,14 @@ fn compare(comparison: &mut Comparison<Proved>) -> Result<(), String> {
 /// Whether each kind was met often enough.
 fn print_tally(tally: &Tally) -> bool {
     println!("by the elimination, by arrays and mixed:");
-    let mut enough = true;
-    for (kind, met, fewest) in tally.rows() {
-        let [a, b, c] = met;
-        let short = met.iter().zip(&fewest).any(|(met, fewest)| met < fewest);
-        let remark = match short {
-            true => format!("  too few: wanted {fewest:?}"),
+    let rows = tally.rows();
+    for row in &rows {
+        let [a, b, c] = row.met;
+        let remark = match row.is_short() {
+            true => format!("  too few: wanted {:?}", row.fewest),
             false => String::new(),
         };
-        println!("{kind:<36}{a:>10}{b:>10}{c:>10}{remark}");
-        enough &= !short;
+        println!("{:<36}{a:>10}{b:>10}{c:>10}{remark}", row.what);
     }
-    enough
+    !rows.iter().any(Row::is_short)
 }

@@ -117,8 +117,22 @@ const ROWS: [(Met, &str, [usize; 3]); 36] = [
 const OF_EACH_KIND: [usize; 3] = [800, 600, 300];
 const SHAPES: [usize; 3] = [2 * Kind::ALL.len() * MAX_SIZE, 700, 600];
 
-/// A kind, how many were met in each way, and the fewest.
-pub type Row = (String, [usize; 3], [usize; 3]);
+/// How many of a kind were met in each way, and the fewest.
+pub struct Row {
+    pub what: String,
+    pub met: [usize; 3],
+    pub fewest: [usize; 3],
+}
+
+impl Row {
+    /// Met too seldom in some way.
+    pub fn is_short(&self) -> bool {
+        self.met
+            .iter()
+            .zip(&self.fewest)
+            .any(|(met, fewest)| met < fewest)
+    }
+}
 
 pub struct Tally {
     met: [[usize; 3]; ROWS.len()],
@@ -255,15 +269,24 @@ impl Tally {
     }
 
     pub fn rows(&self) -> Vec<Row> {
-        let row = |(met, what, fewest): (Met, &str, _)| {
-            (what.to_string(), self.met[met as usize], fewest)
-        };
-        let mut rows: Vec<Row> = ROWS.into_iter().map(row).collect();
+        let row = |what: String, met, fewest| Row { what, met, fewest };
+        let mut rows: Vec<Row> = ROWS
+            .into_iter()
+            .map(|(met, what, fewest)| row(what.to_string(), self.met[met as usize], fewest))
+            .collect();
         for (kind, counts) in Kind::ALL.into_iter().zip(self.kinds) {
-            rows.push((format!("pairs of {}", kind.name()), counts, OF_EACH_KIND));
+            rows.push(row(
+                format!("pairs of {}", kind.name()),
+                counts,
+                OF_EACH_KIND,
+            ));
         }
         let shapes = self.shapes.each_ref().map(BTreeSet::len);
-        rows.push(("sets of algebra, kind and size".to_string(), shapes, SHAPES));
+        rows.push(row(
+            "sets of algebra, kind and size".to_string(),
+            shapes,
+            SHAPES,
+        ));
         rows
     }
 }

@@ -3,7 +3,9 @@
 use Prim.Native.Nat.{ℕ, _+_, _<_, min}
 use mathlib.Core.Path.{_≡_}
 use mathlib.Core.Logic.{_≢_}
+use mathlib.Core.Bool.{cond}
 use mathlib.Core.List.{List}
+use lib.Dec.{ltb}
 use lib.ListN.{getD}
 use Rattle.semiring.specs.Algebra.{Word, noneOf, ownOf, sumOf, productOf}
 use Rattle.semiring.specs.declared.Algebra.{Algebra}
@@ -36,6 +38,5 @@ productBefore x y = min (x + y) 65535
 -- K6 needs K4: by the product of before, two links of 40000 in a row made 65535, which is none, where reach says 1.
 pub record NeedsK4 : Type 0 where
   pub parted : support Distance (productBefore 40000 40000) ≢ productOf Reach (support Distance 40000) (support Distance 40000)
-  -- where nothing was held, and where the second word is none, the products are the same
-  pub same-below : (x y : ℕ) → x + y < 65535 → productBefore x y ≡ productOf Distance x y
-  pub same-none : (x : ℕ) → Word Distance x → productBefore x 65535 ≡ productOf Distance x 65535
+  -- where nothing was held the two products are the same, and from there on the one of before was none
+  pub before : (x y : ℕ) → productBefore x y ≡ cond (ltb (x + y) 65535) (productOf Distance x y) (noneOf Distance)
