@@ -33,7 +33,9 @@ positive a = record {
 
 pub needs-k4 : NeedsK4
 needs-k4 = record {
-  parted = λ e. omega arith;
+  none = refl;
+  one = refl;
+  not-kept = λ kept. let e : _≡_ {A = ℕ} 0 1 = kept 40000 40000 (omega arith) (omega arith) in omega arith;
   before = λ x y.
       elim (decLt (x + y) 65535) [
         | yes h ↦

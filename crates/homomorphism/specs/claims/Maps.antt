@@ -37,6 +37,12 @@ productBefore x y = min (x + y) 65535
 
 -- K6 needs K4: by the product of before, two links of 40000 in a row made 65535, which is none, where reach says 1.
 pub record NeedsK4 : Type 0 where
-  pub parted : support Distance (productBefore 40000 40000) ≢ productOf Reach (support Distance 40000) (support Distance 40000)
-  -- where nothing was held the two products are the same, and from there on the one of before was none
+  pub none : productBefore 40000 40000 ≡ noneOf Distance
+  pub one : productOf Reach (support Distance 40000) (support Distance 40000) ≡ 1
+  -- so the support did not keep the product
+  pub not-kept :
+      ((x y : ℕ) → Word Distance x → Word Distance y
+      → support Distance (productBefore x y) ≡ productOf Reach (support Distance x) (support Distance y))
+      → ⊥
+  -- below a sum of 65535 the two products are the same, from there on the one of before was none
   pub before : (x y : ℕ) → productBefore x y ≡ cond (ltb (x + y) 65535) (productOf Distance x y) (noneOf Distance)
