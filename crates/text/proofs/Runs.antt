@@ -124,3 +124,11 @@ parts-between x y = parts-space x (code " " ∷ y) ∙ ap (λ (p : List (List �
 pub parts-byte : (b : ℕ) (l : List ℕ) → eqb b (code " ") ≡ false → parts (b ∷ l) ≡ (b ∷ first l) ∷ later l
 unfolding runs first later
 parts-byte b l e = parts-runs (b ∷ l) ∙ rw e
+
+pub parts-alone : (b : ℕ) → eqb b (code " ") ≡ false → parts (b ∷ []) ≡ (b ∷ []) ∷ []
+unfolding first later
+parts-alone b e = parts-byte b [] e
+
+pub parts-two : (b c : ℕ) (l : List ℕ) → eqb b (code " ") ≡ false → eqb c (code " ") ≡ false → parts (b ∷ c ∷ l) ≡ (b ∷ c ∷ first l) ∷ later l
+unfolding first later
+parts-two b c l e f = parts-byte b (c ∷ l) e ∙ rw f

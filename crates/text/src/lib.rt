@@ -6,6 +6,7 @@ mod parts;
 mod put_numeral;
 
 pub use bytes::equal;
+pub use bytes::unspaced;
 pub use bytes::until;
 pub use numeral::Numeral;
 pub use numeral::all_digits;

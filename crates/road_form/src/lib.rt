@@ -1,0 +1,7 @@
+// One line of a road file: what it says.
+mod forms;
+mod numbers;
+
+pub use forms::Arc;
+pub use forms::Line;
+pub use forms::read_line;

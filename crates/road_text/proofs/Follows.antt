@@ -1,0 +1,153 @@
+-- The walk over the lines of a file: what holds after each, and what it says of the whole file.
+use Prim.Native.Nat.{ℕ, zero, suc, _+_, _<_, _≤_, _^_}
+use Prim.Native.Char.{code}
+use native.Mathlib.Omega.{arith}
+use mathlib.Core.Path.{_≡_, refl, sym, ap, subst, _∙_}
+use mathlib.Core.Logic.{_≢_}
+use mathlib.Core.List.{List, [], _∷_, _++_, map, append-nil, append-assoc}
+use mathlib.Core.Bool.{false, true≢false}
+use lib.Dec.{eqb}
+use lib.ListN.{length, drop, drop-of-length-le}
+use borrow.Author.Tests.{eq-eqb}
+use Rattle.refusals.specs.Tests.{first}
+use Rattle.refusals.proofs.First.{First, answers}
+use Rattle.text.specs.Pieces.{bytesOf, cut, lines}
+use Rattle.text.specs.inner.Scan.{between, Until}
+use Rattle.road_form.specs.declared.forms.Arc.{Arc}
+use Rattle.road_form.specs.declared.forms.Line.{Line}
+use Rattle.road_form.specs.declared.forms.Line.the-variants.{Comment, Problem, Arc as ArcLine, Unknown}
+use Rattle.road_form.specs.Forms.{formOf}
+use Rattle.road_table.specs.inner.Held.{Holds, Cleared}
+use Rattle.road_text.specs.declared.answer.RoadAnswer.{RoadAnswer}
+use Rattle.road_text.specs.declared.answer.RoadAnswer.the-variants.{Points, Refused}
+use Rattle.road_text.specs.declared.progress.Progress.{Progress}
+use Rattle.road_text.specs.declared.progress.Next.{Next}
+use Rattle.road_text.specs.declared.progress.Next.the-variants.{On, Stop}
+use Rattle.road_text.specs.Steps.{start, lineTests, after, endTests}
+use Rattle.road_text.specs.Reading.{Reading, refused, accepted, unless, follow, arcsOf, arcsIn, answered}
+use Rattle.road_text.specs.inner.Kept.{Ready, Kept, Passed, Stepped, Ended, Filled, Followed}
+
+-- tests that gave a number, and tests that gave none
+pub unless-some : (k : ℕ) (r : Reading) → k ≢ 0 → unless k r ≡ refused k
+unless-some zero r h = absurd (h refl)
+unless-some (suc k) r h = refl
+
+not-zero : {k : ℕ} → eqb k 0 ≡ false → k ≢ 0
+not-zero {k} some z = true≢false (sym (eq-eqb k 0 z) ∙ some)
+
+-- the end of the file
+module _ {s : Progress} where
+  pub ended-refused : {k : ℕ} → First 0 (endTests s) k → eqb k 0 ≡ false → Ended s (Refused k)
+  unfolding follow
+  ended-refused {k} found some = record { outcome = sym (ap (λ (x : ℕ). unless x (accepted (s .points))) (answers found) ∙ unless-some k (accepted (s .points)) (not-zero some)) }
+
+  pub ended-points : First 0 (endTests s) 0 → Ended s (Points (s .points))
+  unfolding follow
+  ended-points found = record { outcome = sym (ap (λ (x : ℕ). unless x (accepted (s .points))) (answers found)) }
+
+end-filled : (s : Progress) {arcs : List Arc} {table : List ℕ} → Holds (s .points) arcs table → Filled (follow [] s) arcs table
+unfolding follow
+end-filled s {arcs} {table} h = by (first 0 (endTests s))
+  where
+    by : (k : ℕ) → Filled (unless k (accepted (s .points))) arcs table
+    by zero = h
+    by (suc k) = tt
+
+-- A line counts once at most.
+count-after : (s : Progress) (f : Line) → after s f .count ≤ s .count + 1
+count-after s Comment = omega arith
+count-after s Unknown = omega arith
+count-after s (Problem points arcs) = omega arith
+count-after s (ArcLine a) = omega arith
+
+-- the lines from a place on
+abbrev linesFrom : ℕ → List ℕ → List (List ℕ)
+linesFrom from file = map bytesOf (cut (code "\n") from (drop from file))
+
+-- `read_lines`: the lines before `from` have been read
+pub record Reached (file table₀ table : List ℕ) (s : Progress) (from : ℕ) : Type 0 where
+  pub seen : List Arc
+  pub kept : Kept seen s table
+  pub follows : follow (linesFrom from file) s ≡ follow (lines file) start
+  pub arcs : arcsIn (lines file) ≡ seen ++ arcsIn (linesFrom from file)
+  pub below : s .count ≤ from
+  pub size : length table ≡ length table₀
+
+pub reached-none : (file : List ℕ) {table : List ℕ} {s : Progress} → s ≡ start → Cleared 16384 table → Reached file table table s 0
+unfolding lines
+reached-none file {table} {s} e c =
+    rw e
+    (record {
+      seen = [];
+      kept = record { room = c .size; few = omega arith; holds = c .zeros; none-yet = λ z. refl };
+      follows = refl;
+      arcs = refl;
+      below = omega arith;
+      size = refl;
+    })
+
+module _ {file table₀ table : List ℕ} {s : Progress} {from : ℕ} (r : Reached file table₀ table s from) where
+  pub still-ready : from < length file → length file < 2 ^ 63 → Ready s table
+  still-ready h k = record { room = r .kept .room; few = r .kept .few; count = omega (arith, r .below) }
+
+  pub reached-size : length table ≡ length table₀
+  reached-size = r .size
+
+  -- a line more
+  module _ {end : ℕ} (h : from < length file) (u : Until (code "\n") from file end) where
+    abbrev line : List ℕ
+    line = between from end file
+
+    split : linesFrom from file ≡ line ∷ linesFrom (end + 1) file
+    split = ap (map bytesOf) (u .piece h)
+
+    followed-one : follow (line ∷ linesFrom (end + 1) file) s ≡ follow (lines file) start
+    followed-one = ap (λ (ls : List (List ℕ)). follow ls s) (sym split) ∙ r .follows
+
+    module _ {next : Next} {new : List ℕ} (step : Stepped s (formOf line) table next new) where
+      pub reached-one : {t : Progress} → next ≡ On t → length new ≡ length table → Reached file table₀ new t (end + 1)
+      unfolding follow arcsIn
+      reached-one {t} e same =
+          let p : Passed s (formOf line) table t new = step .goes t e in
+          record {
+            seen = r .seen ++ arcsOf (formOf line);
+            kept = p .kept (r .seen) (r .kept);
+            follows = ap (follow (linesFrom (end + 1) file)) (p .state)
+                ∙ sym (ap (λ (x : ℕ). unless x (follow (linesFrom (end + 1) file) (after s (formOf line)))) (p .clear))
+                ∙ followed-one;
+            arcs = r .arcs
+                ∙ ap (λ (ls : List (List ℕ)). r .seen ++ arcsIn ls) split
+                ∙ sym (append-assoc (r .seen) (arcsOf (formOf line)) (arcsIn (linesFrom (end + 1) file)));
+            below = rw (p .state) (omega (arith, count-after s (formOf line), r .below, u .least));
+            size = same ∙ r .size;
+          }
+
+      pub stopped-size : length new ≡ length table → length new ≡ length table₀
+      stopped-size same = same ∙ r .size
+
+      pub stopped-here : {k : ℕ} → next ≡ Stop k → length new ≡ length table → Followed file (Refused k) new
+      unfolding follow
+      stopped-here {k} e size =
+          let (some, number) = step .stops k e in
+          let is : refused k ≡ follow (lines file) start
+          = sym (unless-some k (follow (linesFrom (end + 1) file) (after s (formOf line))) some)
+          ∙ ap (λ (x : ℕ). unless x (follow (linesFrom (end + 1) file) (after s (formOf line)))) (sym number)
+          ∙ followed-one in
+          record { size = size ∙ r .kept .room; outcome = is; memory = subst (λ (x : Reading). Filled x (arcsIn (lines file)) new) is tt }
+
+  -- all lines
+  pub reached-end : {answer : RoadAnswer} → length file ≤ from → Ended s answer → Followed file answer table
+  unfolding cut arcsIn
+  reached-end {answer} h e = record { size = r .kept .room; outcome = e .outcome ∙ whole; memory = filled }
+    where
+      none : linesFrom from file ≡ []
+      none = rw (drop-of-length-le file h)
+
+      whole : follow [] s ≡ follow (lines file) start
+      whole = ap (λ (ls : List (List ℕ)). follow ls s) (sym none) ∙ r .follows
+
+      all : r .seen ≡ arcsIn (lines file)
+      all = sym (append-nil (r .seen)) ∙ ap (λ (ls : List (List ℕ)). r .seen ++ arcsIn ls) (sym none) ∙ sym (r .arcs)
+
+      filled : Filled (follow (lines file) start) (arcsIn (lines file)) table
+      filled = subst (λ (x : Reading). Filled x (arcsIn (lines file)) table) whole (subst (λ (arcs : List Arc). Filled (follow [] s) arcs table) all (end-filled s (r .kept .holds)))

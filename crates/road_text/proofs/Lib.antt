@@ -1,0 +1,5 @@
+pub mod Turns
+pub mod Follows
+pub mod Readings
+pub mod Refusals
+pub mod Whole

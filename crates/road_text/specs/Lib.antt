@@ -1,0 +1,4 @@
+pub mod Steps
+pub mod Reading
+pub mod inner
+pub mod claims

@@ -1,0 +1,3 @@
+-- What is claimed of the reader.
+pub mod Whole
+pub mod Refusals

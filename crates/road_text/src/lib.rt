@@ -1,0 +1,95 @@
+// The reader of road files: the text form of the ninth DIMACS shortest path challenge, read into a distance table.
+ghost use mathlib.Core.Path.{_≡_};
+ghost use lib.ListN.{length};
+ghost use Rattle.road_table.specs.inner.Held.{Cleared};
+ghost use Rattle.road_text.specs.Steps.{start};
+ghost use Rattle.road_text.specs.Reading.{RoadRead};
+ghost use Rattle.road_text.specs.inner.Kept.{Ended, Followed, Owed};
+
+mod answer;
+mod host;
+mod progress;
+mod steps;
+
+pub use answer::RoadAnswer;
+pub use host::road_read;
+use progress::Next;
+use progress::Progress;
+use road_table::clear;
+use steps::advance;
+use text::until;
+
+// The words of a buffer: 128 points to a row.
+const TABLE_WORDS: usize = 16384;
+
+fn beginning() -> Progress
+    ensures { λ r. ⌜ r ≡ start ⌝ }
+{
+    Progress {
+        points: 0,
+        arcs: 0,
+        count: 0,
+    }
+}
+
+// What a file answers whose last line has been read.
+fn finish(s: Progress) -> RoadAnswer
+    ensures { λ r. ⌜ Ended s r ⌝ }
+{
+    if s.points < 1 {
+        return RoadAnswer::Refused(21);
+    }
+    if s.count != s.arcs {
+        return RoadAnswer::Refused(23);
+    }
+    RoadAnswer::Points(s.points)
+}
+
+// Reads the lines into a table of zeros. A refusal leaves what was read before it.
+fn read_lines(file: &[u8], table: &mut [u16]) -> RoadAnswer
+    requires { ⌜ Cleared 16384 (now table) ⌝ }
+    ensures { λ r. ⌜ Followed (now (file .entry)) r (now (table .exit)) ⌝ }
+{
+    let mut s = beginning();
+    let mut from = 0;
+    while from < file.len() {
+        let end = until(file, from, b'\n');
+        let next = advance(s, &file[from..end], table);
+        match next {
+            Next::On(after) => {
+                s = after;
+            }
+            Next::Stop(number) => {
+                return RoadAnswer::Refused(number);
+            }
+        }
+        from = end + 1;
+    }
+    finish(s)
+}
+
+// Reads a file into a table of zeros. A refusal leaves it 0.
+fn read_cleared(file: &[u8], table: &mut [u16]) -> RoadAnswer
+    requires { ⌜ Cleared 16384 (now table) ⌝ }
+    ensures { λ r. ⌜ Owed (now (file .entry)) r (now (table .exit)) ⌝ }
+{
+    let answer = read_lines(file, table);
+    match answer {
+        RoadAnswer::Points(n) => RoadAnswer::Points(n),
+        RoadAnswer::Refused(number) => {
+            clear(table);
+            RoadAnswer::Refused(number)
+        }
+    }
+}
+
+// Reads a road file: its distance table into the buffer, row by row, unused words 0. A refusal leaves the buffer 0.
+pub fn read_road(file: &[u8], table: &mut [u16]) -> RoadAnswer
+    ensures { λ r. ⌜ RoadRead (length (now (table .entry))) (now (file .entry)) r (now (table .exit)) ⌝ }
+{
+    clear(table);
+    if table.len() != TABLE_WORDS {
+        return RoadAnswer::Refused(21);
+    }
+    read_cleared(file, table)
+}
