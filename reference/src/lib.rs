@@ -1,6 +1,6 @@
-//! The elimination, the ways, the cell array and the bench program written anew from documents 01 and 02, to hold the
-//! proved ones against: nothing here is taken from their sources, and they are reached through C calls and as a process
-//! alone. (The benchmark's contenders may use the same tricks.)
+//! The elimination, the ways, the cell array, the bench program and the reader of road files written anew from documents
+//! 01 and 02, to hold the proved ones against: nothing here is taken from their sources, and they are reached through C
+//! calls and as a process alone. (The benchmark's contenders may use the same tricks.)
 
 pub mod algebra;
 pub mod bench;
@@ -8,6 +8,7 @@ pub mod elimination;
 pub mod job_text;
 pub mod pairs;
 pub mod random;
+pub mod road;
 pub mod systolic;
 pub mod texts;
 pub mod ways;

@@ -1,4 +1,4 @@
-//! The bench program as a process: a text in at standard input, bytes out at standard output.
+//! A program as a process: a text in at standard input, bytes out at standard output and standard error.
 
 use std::io::{self, Read, Write};
 use std::path::Path;
@@ -12,21 +12,30 @@ const PAUSE: Duration = Duration::from_micros(300);
 /// What the program prints for a text that comes in `pieces` pieces. Its exit status is not looked at, as document 01
 /// says nothing of one, but an end by a signal is an error.
 pub fn printed(program: &Path, text: &[u8], pieces: usize) -> io::Result<Vec<u8>> {
+    let [output, _] = told(program, text, pieces)?;
+    Ok(output)
+}
+
+/// The same, with what it tells on standard error.
+pub fn told(program: &Path, text: &[u8], pieces: usize) -> io::Result<[Vec<u8>; 2]> {
     let mut child = Command::new(program)
         .stdin(Stdio::piped())
         .stdout(Stdio::piped())
-        .stderr(Stdio::null())
+        .stderr(Stdio::piped())
         .spawn()?;
     let stdin = child.stdin.take().expect("standard input is piped");
     let mut stdout = child.stdout.take().expect("standard output is piped");
-    let mut bytes = Vec::new();
+    let mut stderr = child.stderr.take().expect("standard error is piped");
+    let (mut output, mut error) = (Vec::new(), Vec::new());
     // The text is written beside the reading, so that neither side can wait for the other for ever.
     thread::scope(|scope| {
         scope.spawn(|| write(stdin, text, pieces));
-        stdout.read_to_end(&mut bytes)
+        let reading = scope.spawn(|| stderr.read_to_end(&mut error));
+        stdout.read_to_end(&mut output)?;
+        reading.join().expect("reading does not panic")
     })?;
     match child.wait()?.code() {
-        Some(_) => Ok(bytes),
+        Some(_) => Ok([output, error]),
         None => Err(io::Error::other("the program was ended by a signal")),
     }
 }

@@ -1,8 +1,9 @@
-//! Times the proved elimination, array, bench and ways, through their C calls, beside Rust: the same input, one run, one
-//! table. A benchmark, and no test.
+//! Times the proved elimination, array, bench, ways and reader of road files, through their C calls, beside Rust: the
+//! same input, one run, one table. A benchmark, and no test.
 //!
 //! "rust" is the same algorithm in safe Rust; "other" is SSE2 by hand for the elimination, and the plain model of the
-//! array, cell by cell, for the bench. No buffer is cleared between rounds; each contender writes its whole result.
+//! array, cell by cell, for the bench. For road files "rust" goes line by line, "other" is one walk over the bytes. No
+//! buffer is cleared between rounds; each contender writes its whole result.
 //!
 //! An array has 16 jobs of its own order or, where the row says so, of one point, which leaves little to read. It is
 //! started once a round and run to its end, in one run or in runs of one tick each: every run of ours makes its tests,
@@ -12,6 +13,7 @@
 
 use reference::algebra::Algebra;
 use reference::bench::array_times::array_times;
+use reference::bench::road_times::{road_files, road_times};
 use reference::bench::row_sheet::row_sheet;
 use reference::bench::sheet::sheet;
 use reference::bench::sheet_call::{self, PAGE};
@@ -80,6 +82,10 @@ fn main() {
         for algebra in Algebra::ALL {
             all_ways(&mut random, algebra, size);
         }
+    }
+    for (what, file) in road_files(&mut random) {
+        let times = road_times(&file);
+        row(what, MAX_SIZE, Algebra::Distance, &times, "ns a byte");
     }
 }
 
