@@ -9,4 +9,3 @@ pub mod Rows
 pub mod Run
 pub mod Sizes
 pub mod Text
-pub mod Words

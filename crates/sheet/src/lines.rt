@@ -1,8 +1,4 @@
 // The lines of a sheet.
-ghost use mathlib.Core.Bool.{cond};
-ghost use lib.Dec.{eqb};
-ghost use Rattle.text.specs.Ascii.{ascii};
-ghost use Rattle.text.specs.Numeral.{shown};
 ghost use Rattle.text.specs.inner.Put.{Put};
 ghost use Rattle.sheet.specs.Lines.{spaced, refusedLine, jobsLine, shownWord, outLine};
 use semiring::Algebra;
@@ -10,6 +6,7 @@ use semiring::Distance;
 use semiring::Steepest;
 use text::put_number;
 use text::put_text;
+use text::put_unless;
 
 // An entry of a job, the job's size and the tick on which the entry leaves.
 pub struct Entry {
@@ -47,16 +44,6 @@ pub fn put_jobs(page: &mut [u8], jobs: u32, ticks: u32) -> usize
     let at = put_text(page, at, b" ticks");
     let at = put_spaced(page, at, ticks);
     put_text(page, at, b")\n")
-}
-
-// A word, or `-` where it is the none word given.
-fn put_unless(page: &mut [u8], at: usize, none: u16, word: u16) -> usize
-    ensures { λ r. ⌜ Put (now (page .entry)) at (cond (eqb word none) (ascii "-") (shown word)) (now (page .exit)) r ⌝ }
-{
-    if word == none {
-        return put_text(page, at, b"-");
-    }
-    put_number(page, at, word as u32)
 }
 
 // None is `-` outside reach.

@@ -6,3 +6,4 @@ pub mod Numerals
 pub mod Put
 pub mod Runs
 pub mod Walks
+pub mod Words

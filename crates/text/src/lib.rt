@@ -4,6 +4,7 @@ mod numeral;
 mod page;
 mod parts;
 mod put_numeral;
+mod word;
 
 pub use bytes::equal;
 pub use bytes::unspaced;
@@ -15,3 +16,4 @@ pub use page::put_text;
 pub use parts::Part;
 pub use parts::next_part;
 pub use put_numeral::put_number;
+pub use word::put_unless;

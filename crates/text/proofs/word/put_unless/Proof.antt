@@ -1,8 +1,8 @@
--- `put_unless` meets its contract: the test chooses between the dash and the number.
+-- `text::put_unless` meets its contract: the test chooses between the dash and the number.
 use borrow.Author.Needs.{needs}
-use Rattle.sheet.proofs.Words.{dash-printed, word-printed}
-use Rattle.sheet.proofs.lines.put_unless.Statement.{statement}
-use Rattle.sheet.proofs.lines.put_unless.Tie as tie
+use Rattle.text.proofs.Words.{dash-printed, word-printed}
+use Rattle.text.proofs.word.put_unless.Statement.{statement}
+use Rattle.text.proofs.word.put_unless.Tie as tie
 
 pub put-unless-spec : {M : Type 1} → statement M
 put-unless-spec =
