@@ -3,9 +3,6 @@
 ghost use mathlib.Core.Path.{_≡_};
 ghost use lib.ListN.{length};
 ghost use Rattle.sheet.specs.Sheet.{sheetOf};
-
-mod input;
-
 use input::read_all;
 use libc::STDOUT_FILENO;
 use sheet::PAGE_BYTES;

@@ -1,25 +1,25 @@
--- `read_all` meets its contract: the place of the next byte stays within the text.
+-- `input::read_some` meets its contract: `count` holds what a read answers to the part's length.
 use lib.ListN.{length}
-use Prim.Native.Nat.{_≤_, _-_}
 use mathlib.Core.Path.{_≡_}
 use borrow.Author.Needs.{needs}
-use Rattle.bench.proofs.input.read_all.Statement.{statement}
-use Rattle.bench.proofs.input.read_all.Tie as tie
+use Rattle.input.proofs.read_some.Statement.{statement}
+use Rattle.input.proofs.read_some.Tie as tie
 
 abbrev Inv-loop : tie.InvT-loop
-Inv-loop text₀ at₀ text at = (length text ≡ length text₀) × (at ≤ length text₀)
+Inv-loop part₀ tries₀ part tries = length part ≡ length part₀
 
 abbrev μ-loop : tie.MeasureT-loop
-μ-loop text₀ at₀ text at = length text₀ - at
+μ-loop part₀ tries₀ part tries = tries
 
-pub read-all-spec : {M : Type 1} → statement M
-read-all-spec =
+pub read-some-spec : {M : Type 1} → statement M
+read-some-spec =
     tie.close
     (tie.spec
     Inv-loop
     μ-loop
     (λ c. search needs)
-    (λ c. search needs)
+    (λ c κs. search needs)
+    (λ c κs. search needs)
     (λ c. search needs)
     (λ c. search needs)
     (λ c κs. search needs)
