@@ -20,6 +20,12 @@ unfolding joined sum
 joined-length zero f = refl
 joined-length (suc m) f = length-append (joined m f) (f m) ∙ ap (λ (n : ℕ). n + length (f m)) (joined-length m f)
 
+-- a bound on the length of joined texts, from one on each
+pub joined-most : (m : ℕ) (f : ℕ → List ℕ) (most : ℕ) → ((x : ℕ) → length (f x) ≤ most) → length (joined m f) ≤ m * most
+unfolding joined
+joined-most zero f most h = omega arith
+joined-most (suc m) f most h = omega (arith, length-append (joined m f) (f m), joined-most m f most h, h m)
+
 pub sum-below : (m : ℕ) (f g : ℕ → ℕ) → ((x : ℕ) → x < m → f x ≤ g x) → sum m f ≤ sum m g
 unfolding sum
 sum-below zero f g h = omega arith

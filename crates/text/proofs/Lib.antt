@@ -1,9 +1,11 @@
 pub mod Cuts
 pub mod Digits
+pub mod Fronts
 pub mod Joined
 pub mod Lengths
 pub mod Numerals
 pub mod Put
+pub mod Rounds
 pub mod Runs
 pub mod Walks
 pub mod Words

@@ -1,6 +1,6 @@
 -- `print` writes the whole sheet: the page begins with it, and as many bytes are written as it has.
 use borrow.Author.Needs.{needs}
-use Rattle.bench.proofs.Whole.{sheet-within, sheet-part, sheet-whole}
+use Rattle.text.proofs.Fronts.{text-within, text-part, text-whole}
 use Rattle.bench.proofs.print.Statement.{statement}
 use Rattle.bench.proofs.print.Tie as tie
 
@@ -9,7 +9,7 @@ print-spec =
     tie.close
     (tie.spec
     (λ c κs. search needs)
-    (λ c. search (needs, sheet-within))
-    (λ c. search (needs, sheet-part))
-    (λ c κs. search sheet-whole)
+    (λ c. search (needs, text-within))
+    (λ c. search (needs, text-part))
+    (λ c κs. search text-whole)
     (λ c. search needs))
