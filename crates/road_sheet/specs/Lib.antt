@@ -1,0 +1,4 @@
+pub mod Rows
+pub mod Sheet
+pub mod claims
+pub mod inner

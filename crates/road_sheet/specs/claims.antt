@@ -1,0 +1,3 @@
+-- What is claimed of every printed text.
+pub mod Cards
+pub mod Shown
