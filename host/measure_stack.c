@@ -1,9 +1,10 @@
 /*
- * Measures the stack that the elimination needs, on a stack painted before the call, and holds it to the figures of
- * paths.h. Which arrays share a frame is the compiler's choice, and no proof speaks of it.
+ * Measures the stack that the elimination and the reader of road files need, on a stack painted before the call, and holds it to
+ * the figures of paths.h and road.h. Which arrays share a frame is the compiler's choice, and no proof speaks of it.
  */
 #define _XOPEN_SOURCE 600
 #include "paths.h"
+#include "road.h"
 
 #include <stdio.h>
 #include <stdlib.h>
@@ -26,6 +27,13 @@ static void eliminate(void)
 {
     size_t bytes = 2 * size * size;
     outcome = paths_eliminate(algebra, size, weights, bytes, result, bytes);
+}
+
+static void read_file(void)
+{
+    static const char file[] = "c\np sp 2 2\na 1 2 3\na 2 1 4\n";
+    static uint16_t table[ROAD_TABLE_WORDS];
+    outcome = road_read((const uint8_t *)file, sizeof file - 1, table, ROAD_TABLE_WORDS, &size);
 }
 
 static void nothing(void)
@@ -71,5 +79,12 @@ int main(void)
                 failed = 1;
             }
         }
+    touched(read_file);
+    size_t used = touched(read_file) - own;
+    printf("stack: a road file: %zu bytes\n", used);
+    if (outcome != ROAD_OK || used > 1024) {
+        printf("stack: road.h says less than 1 KB\n");
+        failed = 1;
+    }
     return failed;
 }

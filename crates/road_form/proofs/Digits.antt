@@ -7,7 +7,7 @@ use native.Mathlib.Omega.{arith}
 use native.Mathlib.Decide.{decLt, ℕ-discrete}
 use mathlib.Core.Path.{_≡_, refl, sym, ap, _∙_}
 use mathlib.Core.List.{List, [], _∷_, _++_, map}
-use mathlib.Core.Bool.{Bool, true, false, not, _&&_, _||_}
+use mathlib.Core.Bool.{Bool, true, false, not, _&&_, _||_, and-false}
 use lib.ListN.{length, getD, take, drop, length-drop}
 use lib.Seq.{take-suc, getD-take, getD-drop}
 use lib.Dec.{ltb}
@@ -26,7 +26,7 @@ use Rattle.road_form.specs.declared.numbers.Taken.the-variants.{Number, 
 use Rattle.road_form.specs.Forms.{isNumeral}
 use Rattle.road_form.specs.inner.Numbers.{firstIs, NumberAt, Takes}
 
-abbrev IsDigit : ℕ → Type 0
+abbrev pub IsDigit : ℕ → Type 0
 IsDigit b = (48 ≤ b) × (b ≤ 57)
 
 all-digits : (p : List ℕ) → ((i : ℕ) → i < length p → IsDigit (getD p i 0)) → digits p ≡ true
@@ -34,10 +34,6 @@ unfolding digits
 all-digits [] h = refl
 all-digits (b ∷ p) h =
     rw (le-ltb b 48 (h 0 (omega arith) .0), le-ltb 57 b (h 0 (omega arith) .1)) (all-digits p (λ i k. h (suc i) (omega arith)))
-
-pub and-false : (x : Bool) → (x && false) ≡ false
-and-false true = refl
-and-false false = refl
 
 one-other : (p : List ℕ) (i : ℕ) → i < length p → (ltb (getD p i 0) 48 || ltb 57 (getD p i 0)) ≡ true → digits p ≡ false
 unfolding digits
@@ -52,10 +48,10 @@ decimal-more v (c ∷ p) b = decimal-more (10 * v + (c - 48)) p b
 
 -- the next byte `end`, from a place that no such byte stands before
 module _ (end from : ℕ) (l : List ℕ) where
-  abbrev EndFrom : ℕ → Type 0
+  abbrev pub EndFrom : ℕ → Type 0
   EndFrom at = (r : ℕ) × ((at ≤ r) × Until end from l r)
 
-  next-end : (n at : ℕ) → Passed end from l at → length l ≤ at + n → EndFrom at
+  pub next-end : (n at : ℕ) → Passed end from l at → length l ≤ at + n → EndFrom at
   next-end zero at p h = (at, (omega arith, passed-all p (omega arith)))
   next-end (suc n) at p h =
       by (decLt at (length l)) (ℕ-discrete (getD l at 0) end) (λ k e. next-end n (at + 1) (passed-one p k e) (omega arith))
@@ -146,6 +142,8 @@ module _ {line : List ℕ} {from start : ℕ} where
       parts = parts-some (found-here (c .spaces) u) some;
       numeral = rw (within 1 10 (length (between start at line)) (rw wide (omega arith)) (rw wide (omega (arith, c .short)))) digits-all;
       number = c .number;
+      within = omega (arith, c .most);
+      closed = λ e. let (low, high) = c .each (at - 1) (omega arith) (omega arith) in omega arith;
     }
       where
         wide : length (between start at line) ≡ at - start

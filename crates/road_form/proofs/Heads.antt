@@ -5,7 +5,7 @@ use native.Mathlib.Omega.{arith}
 use native.Mathlib.Decide.{ℕ-discrete}
 use mathlib.Core.Path.{_≡_, refl, sym, ap, _∙_}
 use mathlib.Core.List.{List, [], _∷_}
-use mathlib.Core.Bool.{Bool, true, false, cond, _&&_}
+use mathlib.Core.Bool.{Bool, true, false, cond, _&&_, and-false}
 use lib.ListN.{length, getD, take}
 use lib.Dec.{eqb}
 use borrow.Author.Tests.{eq-eqb, ne-eqb}
@@ -17,8 +17,7 @@ use Rattle.text.proofs.Walks.{spaces-none, spaces-found, passed-none, passed-on
 use Rattle.road_form.specs.declared.forms.Line.{Line}
 use Rattle.road_form.specs.declared.forms.Line.the-variants.{Comment, Unknown}
 use Rattle.road_form.specs.Forms.{problemForm, arcForm, formOfParts, beginsWith, endsWith, formOf}
-use Rattle.road_form.specs.inner.Says.{Says, LineRead}
-use Rattle.road_form.proofs.Digits.{and-false}
+use Rattle.road_form.specs.inner.Says.{Says, LineRead, Plain}
 
 begins : (b : ℕ) (line : List ℕ) → 1 ≤ length line → beginsWith b line ≡ eqb (getD line 0 0) b
 begins b line h = rw (ne-eqb (length line) 0 (λ e. omega arith))
@@ -88,8 +87,9 @@ module _ (line : List ℕ) (two : 2 ≤ length line) (spaced : getD line 1 0 ≡
       one (b ∷ l) k = refl
 
   module _ (other : getD line 0 0 ≡ code "c" → ⊥) where
-    pub other-head : (getD line 0 0 ≡ code "a" → ⊥) → (getD line 0 0 ≡ code "p" → ⊥) → LineRead line Unknown
-    other-head a p =
+    pub other-head : Plain line → (getD line 0 0 ≡ code "p" → ⊥) → LineRead line Unknown
+    other-head plain p =
+        let a : getD line 0 0 ≡ code "a" → ⊥ = λ e. plain .no-arc (record { two = two; name = e; spaced = spaced }) in
         unknown line (omega arith) other
         (λ h. ap formOfParts (headed h) ∙ rw (ne-eqb (getD line 0 0) (code "p") p, ne-eqb (getD line 0 0) (code "a") a))
 

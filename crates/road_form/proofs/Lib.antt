@@ -1,3 +1,5 @@
 pub mod Digits
+pub mod Within
 pub mod Lines
 pub mod Heads
+pub mod Arcs

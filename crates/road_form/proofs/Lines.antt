@@ -2,10 +2,11 @@
 use Prim.Native.Nat.{ℕ, _-_, _<_, _≤_, max}
 use Prim.Native.Char.{code}
 use native.Mathlib.Omega.{arith}
-use mathlib.Core.Path.{_≡_, refl, sym, ap₂, _∙_}
+use mathlib.Core.Path.{_≡_, refl, sym, ap₂, subst, _∙_}
 use mathlib.Core.List.{List, [], _∷_}
-use mathlib.Core.Bool.{Bool, true, false, not, cond, _&&_}
+use mathlib.Core.Bool.{Bool, true, false, not, cond, _&&_, and-false}
 use lib.ListN.{length, getD}
+use lib.Seq.{take-length}
 use borrow.Author.Tests.{not-true, not-false}
 use Rattle.memory.specs.Lists.{same}
 use Rattle.text.specs.Ascii.{ascii}
@@ -17,9 +18,8 @@ use Rattle.road_form.specs.declared.forms.Line.the-variants.{Comment, Pr
 use Rattle.road_form.specs.declared.numbers.Taken.{Taken}
 use Rattle.road_form.specs.declared.numbers.Taken.the-variants.{Number, Other}
 use Rattle.road_form.specs.Forms.{isNumeral, isShortest, threeParts, problemOf, arcOf, problemForm, arcForm}
-use Rattle.road_form.specs.inner.Numbers.{firstIs, NumberAt, Takes}
-use Rattle.road_form.specs.inner.Says.{Says}
-use Rattle.road_form.proofs.Digits.{and-false}
+use Rattle.road_form.specs.inner.Numbers.{firstIs, Takes, TakenFrom}
+use Rattle.road_form.specs.inner.Says.{Says, Plain}
 
 -- three parts, one after the other
 module _ (k₁ k₂ k₃ : List ℕ → Bool) (form : List ℕ → List ℕ → List ℕ → Line) where
@@ -60,26 +60,30 @@ module _ {line : List ℕ} {from : ℕ} {t : Taken} (a : Takes line from t) wher
           let q = b .some v′ e′ is₂ in
           record { is = rw (p .parts, q .parts) (third-other isNumeral isNumeral isNumeral arcOf (p .part) (q .part) (partsFrom e′ line) (d .none h)) }
 
-      module _ {v″ e″ x y : ℕ} (is₃ : w ≡ Number v″ e″) (f : Found e″ line x y) where
-        pub arc-more : x < y → Says arcForm (partsFrom from line) Unknown
+      module _ {v″ e″ : ℕ} (is₃ : w ≡ Number v″ e″) where
+        pub arc-more : {more : List ℕ} {ps : List (List ℕ)} → partsFrom e″ line ≡ more ∷ ps → Says arcForm (partsFrom from line) Unknown
         arc-more h =
             let p = a .some v e is₁ in
             let q = b .some v′ e′ is₂ in
             let r = d .some v″ e″ is₃ in
-            record { is = rw (p .parts, q .parts, r .parts, parts-some f h) }
+            record { is = rw (p .parts, q .parts, r .parts, h) }
 
-        pub arc-whole : y ≤ x → Says arcForm (partsFrom from line) (Arc (record { from = v; to = v′; length = v″ }))
+        pub arc-whole : partsFrom e″ line ≡ [] → Says arcForm (partsFrom from line) (Arc (record { from = v; to = v′; length = v″ }))
         arc-whole h =
             let p = a .some v e is₁ in
             let q = b .some v′ e′ is₂ in
             let r = d .some v″ e″ is₃ in
             record {
               is = (λ i. Arc (record { from = p .number i; to = q .number i; length = r .number i }))
-                  ∙ rw (p .parts, q .parts, r .parts, parts-none f h, p .numeral, q .numeral, r .numeral);
+                  ∙ rw (p .parts, q .parts, r .parts, h, p .numeral, q .numeral, r .numeral);
             }
 
+-- a numeral of a line that has no other
+line-takes : {line : List ℕ} {k : ℕ} {t : Taken} → Plain line → TakenFrom line k t → k ≤ length line → Takes line k t
+line-takes {line} {k} {t} p n h = subst (λ (x : List ℕ). Takes x k t) (take-length line) (n .takes (length line) (p .one) h)
+
 -- a problem's parts
-module _ {line : List ℕ} {from a b : ℕ} (f : Found from line a b) where
+module _ {line : List ℕ} (plain : Plain line) {from a b : ℕ} (f : Found from line a b) where
   pub problem-none : b ≤ a → Says problemForm (partsFrom from line) Unknown
   problem-none h = record { is = rw (parts-none f h) }
 
@@ -93,11 +97,17 @@ module _ {line : List ℕ} {from a b : ℕ} (f : Found from line a b) where
     pub problem-first : not answer ≡ true → Says problemForm (partsFrom from line) Unknown
     problem-first e = record { is = first-other isShortest isNumeral isNumeral problemOf (partsFrom from line) (kind-other e) }
 
-    module _ {t : Taken} (is₁ : not answer ≡ false) (d : Takes line b t) where
+    module _ {t : Taken} (is₁ : not answer ≡ false) (taken : TakenFrom line b t) where
+      d : Takes line b t
+      d = line-takes plain taken (omega (arith, f .most))
+
       pub problem-second : t ≡ Other → Says problemForm (partsFrom from line) Unknown
       problem-second h = record { is = rw (parts-some f some) (second-other isShortest isNumeral isNumeral problemOf (between a b line) (partsFrom b line) (d .none h)) }
 
-      module _ {v e : ℕ} {u : Taken} (is₂ : t ≡ Number v e) (g : Takes line e u) where
+      module _ {v e : ℕ} {u : Taken} (is₂ : t ≡ Number v e) (taken′ : TakenFrom line e u) where
+        g : Takes line e u
+        g = line-takes plain taken′ (d .some v e is₂ .within)
+
         pub problem-third : u ≡ Other → Says problemForm (partsFrom from line) Unknown
         problem-third h =
             let p = d .some v e is₂ in

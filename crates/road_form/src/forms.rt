@@ -1,11 +1,12 @@
-// The form that a line has.
+// The form of the line that stands at the beginning of a text.
 ghost use Rattle.text.specs.inner.Scan.{partsFrom};
-ghost use Rattle.road_form.specs.Forms.{arcForm, problemForm};
-ghost use Rattle.road_form.specs.inner.Says.{Says, LineRead};
+ghost use Rattle.road_form.specs.Forms.{problemForm};
+ghost use Rattle.road_form.specs.inner.Says.{Says, LineRead, LineSaid, EndsAt, UnknownSaid, ArcBegins, ArcTold, Plain};
 use crate::numbers::Taken;
 use crate::numbers::next_number;
 use text::equal;
 use text::next_part;
+use text::until;
 
 // `a FROM TO LENGTH`
 pub struct Arc {
@@ -23,32 +24,72 @@ pub enum Line {
     Unknown,
 }
 
-// What stands after `a`.
-fn arc_line(line: &[u8], from: usize) -> Line
-    ensures { λ r. ⌜ Says arcForm (partsFrom from (now (line .entry))) r ⌝ }
+// What a line says, and where it ends: at its LF, or with the text.
+pub struct Said {
+    pub line: Line,
+    pub end: usize,
+}
+
+fn ends_at(text: &[u8], at: usize) -> bool
+    ensures { λ r. ⌜ EndsAt (now (text .entry)) at r ⌝ }
 {
-    let Taken::Number { value: tail, end } = next_number(line, from) else {
-        return Line::Unknown;
-    };
-    let Taken::Number { value: head, end } = next_number(line, end) else {
-        return Line::Unknown;
-    };
-    let Taken::Number { value: length, end } = next_number(line, end) else {
-        return Line::Unknown;
-    };
-    let more = next_part(line, end);
-    if more.start < more.end {
-        return Line::Unknown;
+    if text.len() <= at {
+        return true;
     }
-    Line::Arc(Arc {
-        from: tail,
-        to: head,
-        length,
-    })
+    text[at] == b'\n'
+}
+
+fn unknown(text: &[u8]) -> Said
+    ensures { λ r. ⌜ UnknownSaid (now (text .entry)) r ⌝ }
+{
+    Said {
+        line: Line::Unknown,
+        end: until(text, 0, b'\n'),
+    }
+}
+
+fn begins_arc(text: &[u8]) -> bool
+    ensures { λ r. ⌜ ArcTold (now (text .entry)) r ⌝ }
+{
+    if text.len() < 2 {
+        return false;
+    }
+    if text[0] != b'a' {
+        return false;
+    }
+    text[1] == b' '
+}
+
+// An arc's line ends where its last numeral does, so that no byte of it is looked at twice.
+fn arc_line(text: &[u8]) -> Said
+    requires { ⌜ ArcBegins (now text) ⌝ }
+    ensures { λ r. ⌜ LineSaid (now (text .entry)) r ⌝ }
+{
+    let Taken::Number { value: tail, end } = next_number(text, 1) else {
+        return unknown(text);
+    };
+    let Taken::Number { value: head, end } = next_number(text, end) else {
+        return unknown(text);
+    };
+    let Taken::Number { value: length, end } = next_number(text, end) else {
+        return unknown(text);
+    };
+    if !ends_at(text, end) {
+        return unknown(text);
+    }
+    Said {
+        line: Line::Arc(Arc {
+            from: tail,
+            to: head,
+            length,
+        }),
+        end,
+    }
 }
 
 // What stands after `p`.
 fn problem_line(line: &[u8], from: usize) -> Line
+    requires { ⌜ Plain (now line) ⌝ }
     ensures { λ r. ⌜ Says problemForm (partsFrom from (now (line .entry))) r ⌝ }
 {
     let kind = next_part(line, from);
@@ -73,8 +114,9 @@ fn problem_line(line: &[u8], from: usize) -> Line
     Line::Problem { points, arcs }
 }
 
-// A line of one byte has no known form but `c`.
-pub fn read_line(line: &[u8]) -> Line
+// A line that is no arc's. One of a single byte has no known form but `c`.
+fn plain_line(line: &[u8]) -> Line
+    requires { ⌜ Plain (now line) ⌝ }
     ensures { λ r. ⌜ LineRead (now (line .entry)) r ⌝ }
 {
     if line.len() < 1 {
@@ -92,11 +134,21 @@ pub fn read_line(line: &[u8]) -> Line
     if line[line.len() - 1] == b' ' {
         return Line::Unknown;
     }
-    if line[0] == b'a' {
-        return arc_line(line, 1);
-    }
     if line[0] == b'p' {
         return problem_line(line, 1);
     }
     Line::Unknown
+}
+
+pub fn read_line(text: &[u8]) -> Said
+    ensures { λ r. ⌜ LineSaid (now (text .entry)) r ⌝ }
+{
+    if begins_arc(text) {
+        return arc_line(text);
+    }
+    let end = until(text, 0, b'\n');
+    Said {
+        line: plain_line(&text[..end]),
+        end,
+    }
 }

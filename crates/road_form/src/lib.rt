@@ -4,4 +4,5 @@ mod numbers;
 
 pub use forms::Arc;
 pub use forms::Line;
+pub use forms::Said;
 pub use forms::read_line;

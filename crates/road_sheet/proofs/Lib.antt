@@ -5,3 +5,4 @@ pub mod Files
 pub mod Points
 pub mod Room
 pub mod Shown
+pub mod Borders

@@ -1,21 +1,25 @@
 -- The walk over the lines of a file: what holds after each, and what it says of the whole file.
-use Prim.Native.Nat.{ℕ, zero, suc, _+_, _<_, _≤_, _^_}
-use Prim.Native.Char.{code}
+use Prim.Native.Nat.{ℕ, zero, suc, _+_, _-_, _<_, _≤_, _^_}
 use native.Mathlib.Omega.{arith}
 use mathlib.Core.Path.{_≡_, refl, sym, ap, subst, _∙_}
 use mathlib.Core.Logic.{_≢_}
-use mathlib.Core.List.{List, [], _∷_, _++_, map, append-nil, append-assoc}
+use mathlib.Core.List.{List, [], _∷_, _++_, append-nil, append-assoc}
 use mathlib.Core.Bool.{false, true≢false}
 use lib.Dec.{eqb}
-use lib.ListN.{length, drop, drop-of-length-le}
+use lib.ListN.{length, take, drop, length-drop, drop-of-length-le}
+use lib.Seq.{take-all, drop-drop}
+use mir.Syntax.{w64}
+use mir.Val.{Fits}
 use borrow.Author.Tests.{eq-eqb}
 use Rattle.refusals.specs.Tests.{first}
 use Rattle.refusals.proofs.First.{First, answers}
-use Rattle.text.specs.Pieces.{bytesOf, cut, lines}
-use Rattle.text.specs.inner.Scan.{between, Until}
+use Rattle.text.specs.Pieces.{cut, lines}
+use Rattle.text.proofs.Cuts.{first-line}
 use Rattle.road_form.specs.declared.forms.Arc.{Arc}
 use Rattle.road_form.specs.declared.forms.Line.{Line}
 use Rattle.road_form.specs.declared.forms.Line.the-variants.{Comment, Problem, Arc as ArcLine, Unknown}
+use Rattle.road_form.specs.declared.forms.Said.{Said}
+use Rattle.road_form.specs.inner.Says.{LineSaid}
 use Rattle.road_form.specs.Forms.{formOf}
 use Rattle.road_table.specs.inner.Held.{Holds, Cleared}
 use Rattle.road_text.specs.declared.answer.RoadAnswer.{RoadAnswer}
@@ -62,7 +66,7 @@ count-after s (ArcLine a) = omega arith
 
 -- the lines from a place on
 abbrev linesFrom : ℕ → List ℕ → List (List ℕ)
-linesFrom from file = map bytesOf (cut (code "\n") from (drop from file))
+linesFrom from file = lines (drop from file)
 
 -- `read_lines`: the lines before `from` have been read
 pub record Reached (file table₀ table : List ℕ) (s : Progress) (from : ℕ) : Type 0 where
@@ -93,32 +97,59 @@ module _ {file table₀ table : List ℕ} {s : Progress} {from : ℕ} (r : Reach
   pub reached-size : length table ≡ length table₀
   reached-size = r .size
 
-  -- a line more
-  module _ {end : ℕ} (h : from < length file) (u : Until (code "\n") from file end) where
+  -- a line more, from the bytes that are lent
+  module _ {said : Said} (h : from < length file) (l : LineSaid (take (length file - from) (drop from file)) said) where
+    abbrev rest : List ℕ
+    rest = drop from file
+
+    lent : take (length file - from) rest ≡ rest
+    lent = take-all (length file - from) (drop from file) (rw (length-drop from file) (omega arith))
+
+    in-rest : LineSaid rest said
+    in-rest = subst (λ (x : List ℕ). LineSaid x said) lent l
+
+    within : from + said .end ≤ length file
+    within = omega (arith, in-rest .ends .most, length-drop from file)
+
+    pub end-fits : length file < 2 ^ 63 → Fits w64 (from + said .end)
+    end-fits k = omega (arith, within)
+
+    pub next-fits : length file < 2 ^ 63 → Fits w64 (from + said .end + 1)
+    next-fits k = omega (arith, within)
+
     abbrev line : List ℕ
-    line = between from end file
+    line = take (said .end) rest
 
-    split : linesFrom from file ≡ line ∷ linesFrom (end + 1) file
-    split = ap (map bytesOf) (u .piece h)
+    abbrev later : List (List ℕ)
+    later = linesFrom (from + said .end + 1) file
 
-    followed-one : follow (line ∷ linesFrom (end + 1) file) s ≡ follow (lines file) start
+    split : linesFrom from file ≡ line ∷ later
+    split =
+        let z : from + (said .end + 1) ≡ from + said .end + 1 = omega arith in
+        first-line rest (said .end) (rw (length-drop from file) (omega arith)) (in-rest .ends)
+        ∙ ap (λ (x : List ℕ). line ∷ lines x) (drop-drop (said .end + 1) from file ∙ ap (λ (k : ℕ). drop k file) z)
+
+    followed-one : follow (line ∷ later) s ≡ follow (lines file) start
     followed-one = ap (λ (ls : List (List ℕ)). follow ls s) (sym split) ∙ r .follows
 
-    module _ {next : Next} {new : List ℕ} (step : Stepped s (formOf line) table next new) where
-      pub reached-one : {t : Progress} → next ≡ On t → length new ≡ length table → Reached file table₀ new t (end + 1)
+    module _ {next : Next} {new : List ℕ} (stepped : Stepped s (said .line) table next new) where
+      step : Stepped s (formOf line) table next new
+      step = subst (λ (x : Line). Stepped s x table next new) (in-rest .says .is) stepped
+
+      pub reached-one : {t : Progress} → next ≡ On t → length new ≡ length table → Reached file table₀ new t (from + said .end + 1)
       unfolding follow arcsIn
       reached-one {t} e same =
           let p : Passed s (formOf line) table t new = step .goes t e in
           record {
             seen = r .seen ++ arcsOf (formOf line);
             kept = p .kept (r .seen) (r .kept);
-            follows = ap (follow (linesFrom (end + 1) file)) (p .state)
-                ∙ sym (ap (λ (x : ℕ). unless x (follow (linesFrom (end + 1) file) (after s (formOf line)))) (p .clear))
+            follows = ap (follow later) (p .state)
+                ∙ sym (ap (λ (x : ℕ). unless x (follow later (after s (formOf line)))) (p .clear))
                 ∙ followed-one;
             arcs = r .arcs
                 ∙ ap (λ (ls : List (List ℕ)). r .seen ++ arcsIn ls) split
-                ∙ sym (append-assoc (r .seen) (arcsOf (formOf line)) (arcsIn (linesFrom (end + 1) file)));
-            below = rw (p .state) (omega (arith, count-after s (formOf line), r .below, u .least));
+                ∙ sym (append-assoc (r .seen) (arcsOf (formOf line)) (arcsIn later));
+            below = rw (p .state) (omega (arith, count-after s (formOf line), r .below, in-rest .ends .least));
             size = same ∙ r .size;
           }
 
@@ -130,14 +161,14 @@ module _ {file table₀ table : List ℕ} {s : Progress} {from : ℕ} (r : Reach
       stopped-here {k} e size =
           let (some, number) = step .stops k e in
           let is : refused k ≡ follow (lines file) start
-          = sym (unless-some k (follow (linesFrom (end + 1) file) (after s (formOf line))) some)
-          ∙ ap (λ (x : ℕ). unless x (follow (linesFrom (end + 1) file) (after s (formOf line)))) (sym number)
+          = sym (unless-some k (follow later (after s (formOf line))) some)
+          ∙ ap (λ (x : ℕ). unless x (follow later (after s (formOf line)))) (sym number)
           ∙ followed-one in
           record { size = size ∙ r .kept .room; outcome = is; memory = subst (λ (x : Reading). Filled x (arcsIn (lines file)) new) is tt }
 
   -- all lines
   pub reached-end : {answer : RoadAnswer} → length file ≤ from → Ended s answer → Followed file answer table
-  unfolding cut arcsIn
+  unfolding lines cut arcsIn
   reached-end {answer} h e = record { size = r .kept .room; outcome = e .outcome ∙ whole; memory = filled }
     where
       none : linesFrom from file ≡ []

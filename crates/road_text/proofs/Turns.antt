@@ -13,8 +13,6 @@ use Rattle.refusals.proofs.First.{First, hit, skip, clear, answers, same, withi
 use Rattle.road_form.specs.declared.forms.Arc.{Arc as ArcSaid}
 use Rattle.road_form.specs.declared.forms.Line.{Line}
 use Rattle.road_form.specs.declared.forms.Line.the-variants.{Comment, Problem, Arc, Unknown}
-use Rattle.road_form.specs.Forms.{formOf}
-use Rattle.road_form.specs.inner.Says.{LineRead}
 use Rattle.road_table.specs.inner.Held.{Holds, Room, Begun, Joinable, Joined}
 use Rattle.road_text.specs.declared.progress.Progress.{Progress}
 use Rattle.road_text.specs.declared.progress.Next.{Next}
@@ -85,15 +83,13 @@ module _ {s : Progress} {old : List ℕ} (r : Ready s old) where
     };
   })
 
--- a line, from what it says
-module _ {line : List ℕ} {said : Line} (l : LineRead line said) {s : Progress} {old : List ℕ} where
-  pub by-form : {f : Line} {r : Next} {new : List ℕ} → said ≡ f → Stepped s f old r new → Stepped s (formOf line) old r new
-  by-form {f} {r} {new} e step = subst (λ (x : Line). Stepped s x old r new) (sym e ∙ l .is) step
+-- a line, by what it says
+module _ {said : Line} {s : Progress} {old : List ℕ} where
+  pub by-form : {f : Line} {r : Next} {new : List ℕ} → said ≡ f → Stepped s f old r new → Stepped s said old r new
+  by-form {f} {r} {new} e step = subst (λ (x : Line). Stepped s x old r new) (sym e) step
 
-  pub comment-passed : said ≡ Comment → Stepped s (formOf line) old (On s) old
-  comment-passed e =
-      by-form e
-      (went (record { clear = refl; state = refl; kept = λ seen k. rw (append-nil seen) k }))
+  pub comment-passed : said ≡ Comment → Stepped s said old (On s) old
+  comment-passed e = by-form e (went (record { clear = refl; state = refl; kept = λ seen k. rw (append-nil seen) k }))
 
-  pub unknown-stopped : said ≡ Unknown → Stepped s (formOf line) old (Stop 21) old
+  pub unknown-stopped : said ≡ Unknown → Stepped s said old (Stop 21) old
   unknown-stopped e = by-form e (stopped (hit refl) refl)

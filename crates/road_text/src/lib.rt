@@ -15,9 +15,9 @@ pub use answer::RoadAnswer;
 pub use host::road_read;
 use progress::Next;
 use progress::Progress;
+use road_form::read_line;
 use road_table::clear;
 use steps::advance;
-use text::until;
 
 // The words of a buffer: 128 points to a row.
 const TABLE_WORDS: usize = 16384;
@@ -53,8 +53,9 @@ fn read_lines(file: &[u8], table: &mut [u16]) -> RoadAnswer
     let mut s = beginning();
     let mut from = 0;
     while from < file.len() {
-        let end = until(file, from, b'\n');
-        let next = advance(s, &file[from..end], table);
+        let said = read_line(&file[from..]);
+        let line = said.line;
+        let next = advance(s, line, table);
         match next {
             Next::On(after) => {
                 s = after;
@@ -63,7 +64,7 @@ fn read_lines(file: &[u8], table: &mut [u16]) -> RoadAnswer
                 return RoadAnswer::Refused(number);
             }
         }
-        from = end + 1;
+        from = from + said.end + 1;
     }
     finish(s)
 }

@@ -1,12 +1,10 @@
 // What one line leads to.
 ghost use Rattle.road_form.specs.declared.forms.Line.the-variants.{Problem, Arc as arcLine};
-ghost use Rattle.road_form.specs.Forms.{formOf};
 ghost use Rattle.road_text.specs.inner.Kept.{Ready, Stepped};
 use crate::progress::Next;
 use crate::progress::Progress;
 use road_form::Arc;
 use road_form::Line;
-use road_form::read_line;
 use road_table::begin;
 use road_table::join;
 
@@ -59,13 +57,12 @@ fn arc_step(s: Progress, arc: Arc, table: &mut [u16]) -> Next
     })
 }
 
-// The step of a line, with the table after it where it is accepted.
-pub fn advance(s: Progress, line: &[u8], table: &mut [u16]) -> Next
+// What a line leads to, with the table after it where it is accepted.
+pub fn advance(s: Progress, line: Line, table: &mut [u16]) -> Next
     requires { ⌜ Ready s (now table) ⌝ }
-    ensures { λ r. ⌜ Stepped s (formOf (now (line .entry))) (now (table .entry)) r (now (table .exit)) ⌝ }
+    ensures { λ r. ⌜ Stepped s line (now (table .entry)) r (now (table .exit)) ⌝ }
 {
-    let said = read_line(line);
-    match said {
+    match line {
         Line::Comment => Next::On(s),
         Line::Problem { points, arcs } => problem_step(s, points, arcs, table),
         Line::Arc(arc) => arc_step(s, arc, table),

@@ -4,7 +4,6 @@ pub mod Leaving
 pub mod Memory
 pub mod Numbers
 pub mod Room
-pub mod Rounds
 pub mod Rows
 pub mod Run
 pub mod Sizes

@@ -24,6 +24,7 @@ use Rattle.text.specs.Joined.{joined}
 use Rattle.text.specs.Page.{overwritten}
 use Rattle.text.specs.Numeral.{shown}
 use Rattle.text.proofs.Numerals.{numeral-length, numeral-most}
+use Rattle.text.proofs.Words.{unless-length}
 use Rattle.text.proofs.Lengths.{sum, joined-length, sum-below, joined-sums, sum-once}
 use Rattle.sheet.specs.Lines.{Words, refusedLine, jobsLine, shownWord, outLine, entryLine, rowLines, sheet}
 use Rattle.sheet.specs.Sheet.{wholeRun, resultWords, printed, sheetOf}
@@ -42,17 +43,10 @@ refused-length number line = simp length-append (omega (arith, numeral-most 5 nu
 jobs-length : (jobs ticks : ℕ) → jobs < 100 → ticks < 10000 → length (jobsLine jobs ticks) ≤ 21
 jobs-length jobs ticks h g = simp length-append (omega (arith, two-digits jobs h, four-digits ticks g))
 
-dash-length : (w none : ℕ) → length (cond (eqb w none) (ascii "-") (shown w)) ≤ 5
-dash-length w none = by (eqb w none)
-  where
-    by : (b : Bool) → length (cond b (ascii "-") (shown w)) ≤ 5
-    by true = omega arith
-    by false = numeral-most 5 w
-
 word-length : (a : Algebra) (w : ℕ) → length (shownWord a w) ≤ 5
 word-length Reach w = numeral-most 5 w
-word-length Distance w = dash-length w (noneOf Distance)
-word-length Steepest w = dash-length w (noneOf Steepest)
+word-length Distance w = unless-length w (noneOf Distance)
+word-length Steepest w = unless-length w (noneOf Steepest)
 
 -- no line is longer than `(out 15 31 30 32 2108 65534)` with its LF
 abbrev line-most : ℕ

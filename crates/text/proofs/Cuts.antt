@@ -6,10 +6,12 @@ use native.Mathlib.Omega.{arith}
 use native.Mathlib.Decide.{decLt, ℕ-discrete}
 use mathlib.Core.Path.{_≡_, refl, sym, ap, _∙_}
 use mathlib.Core.List.{List, [], _∷_, _++_, map}
-use lib.ListN.{length, getD, drop, take-append-drop, length-take, length-drop, drop-of-length-le}
+use lib.ListN.{length, getD, take, drop, take-append-drop, length-take, length-drop, drop-of-length-le}
+use mathlib.Core.Bool.{Bool, true, false}
+use lib.Dec.{eqb}
 use lib.Seq.{drop-cons, drop-drop, getD-take, getD-drop}
 use borrow.Author.Tests.{eq-eqb, ne-eqb}
-use Rattle.text.specs.Pieces.{Piece, cut, bytesOf, begun, nonempty, placed}
+use Rattle.text.specs.Pieces.{Piece, pieced, cut, bytesOf, lines, begun, nonempty, placed}
 use Rattle.text.specs.inner.Scan.{between, partsFrom, Until, Unspaced, Found}
 
 abbrev piece-at : ℕ → List ℕ → Piece
@@ -60,7 +62,7 @@ module _ (end from r : ℕ) (l : List ℕ) (least : from ≤ r) (most : r ≤ ma
   width h = simp (length-take, length-drop) (omega arith)
 
   pub until-here : ((q : ℕ) → from ≤ q → q < r → getD l q 0 ≡ end → ⊥) → (r < length l → getD l r 0 ≡ end) → Until end from l r
-  until-here free stands = record { least = least; most = most; stands = stands; piece = piece }
+  until-here free stands = record { least = least; most = most; free = free; stands = stands; piece = piece }
     where
       piece : from < length l → cut end from (drop from l) ≡ record { at = from; bytes = between from r l } ∷ cut end (r + 1) (drop (r + 1) l)
       piece h =
@@ -123,3 +125,26 @@ module _ {from start end : ℕ} {line : List ℕ} (f : Found from line start end
 
   pub parts-none : end ≤ start → partsFrom from line ≡ []
   parts-none h = ap (map bytesOf) (f .none h)
+
+-- Pieces wherever they stand: the first line of a text, and the others.
+pieced-same : (t : Bool) (a b x : ℕ) (ps qs : List Piece) → map bytesOf ps ≡ map bytesOf qs → map bytesOf (pieced t a x ps) ≡ map bytesOf (pieced t b x qs)
+pieced-same true a b x ps qs e = ap (λ (l : List (List ℕ)). [] ∷ l) e
+pieced-same false a b x [] [] e = refl
+pieced-same false a b x [] (q ∷ qs) e = let z : 0 ≡ suc (length (map bytesOf qs)) = ap length e in absurd (omega arith)
+pieced-same false a b x (p ∷ ps) [] e = let z : suc (length (map bytesOf ps)) ≡ 0 = ap length e in absurd (omega arith)
+pieced-same false a b x (p ∷ ps) (q ∷ qs) e =
+    let first : p .bytes ≡ q .bytes = cc in
+    let rest : map bytesOf ps ≡ map bytesOf qs = cc in
+    rw (first, rest)
+
+cut-same : (end a b : ℕ) (l : List ℕ) → map bytesOf (cut end a l) ≡ map bytesOf (cut end b l)
+unfolding cut
+cut-same end a b [] = refl
+cut-same end a b (x ∷ l) = pieced-same (eqb x end) a b x (cut end (suc a) l) (cut end (suc b) l) (cut-same end (suc a) (suc b) l)
+
+pub first-line : (text : List ℕ) (e : ℕ) → 0 < length text → Until (code "\n") 0 text e → lines text ≡ take e text ∷ lines (drop (e + 1) text)
+unfolding lines
+first-line text e h u =
+    let z : e - 0 ≡ e = omega arith in
+    ap (map bytesOf) (u .piece h)
+    ∙ rw z (ap (λ (ls : List (List ℕ)). take e text ∷ ls) (cut-same (code "\n") (e + 1) 0 (drop (e + 1) text)))

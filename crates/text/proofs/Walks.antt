@@ -35,20 +35,26 @@ module _ {end from : ℕ} {l : List ℕ} where
 pub record Spaces (from : ℕ) (l : List ℕ) (at : ℕ) : Type 0 where
   pub least : from ≤ at
   pub most : at ≤ max from (length l)
+  pub each : (q : ℕ) → from ≤ q → q < at → getD l q 0 ≡ code " "
   pub same-parts : placed from (drop from l) ≡ placed at (drop at l)
 
 module _ {from : ℕ} {l : List ℕ} where
   pub spaces-none : Spaces from l from
-  spaces-none = record { least = omega arith; most = omega arith; same-parts = refl }
+  spaces-none = record { least = omega arith; most = omega arith; each = λ q h k. absurd (omega arith); same-parts = refl }
 
   pub spaces-one : {at : ℕ} → Spaces from l at → at < length l → getD l at 0 ≡ code " " → Spaces from l (at + 1)
-  spaces-one {at} s h e = record { least = omega arith; most = omega arith; same-parts = s .same-parts ∙ placed-space at l h e }
+  spaces-one {at} s h e = record {
+    least = omega arith;
+    most = omega arith;
+    each = below-from (λ q. getD l q 0 ≡ code " ") at (s .each) e;
+    same-parts = s .same-parts ∙ placed-space at l h e;
+  }
 
   pub spaces-found : {at : ℕ} → Spaces from l at → (getD l at 0 ≡ code " " → ⊥) → Unspaced from l at
-  spaces-found {at} s other = record { least = s .least; most = s .most; other = λ h. other; same-parts = s .same-parts }
+  spaces-found {at} s other = record { least = s .least; most = s .most; each = s .each; other = λ h. other; same-parts = s .same-parts }
 
   pub spaces-all : {at : ℕ} → Spaces from l at → length l ≤ at → Unspaced from l at
-  spaces-all {at} s h = record { least = s .least; most = s .most; other = λ k. absurd (omega arith); same-parts = s .same-parts }
+  spaces-all {at} s h = record { least = s .least; most = s .most; each = s .each; other = λ k. absurd (omega arith); same-parts = s .same-parts }
 
 -- `equal`: the bytes so far are alike
 pub record Alike (p q : List ℕ) (at : ℕ) : Type 0 where

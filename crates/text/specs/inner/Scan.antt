@@ -13,6 +13,7 @@ between start end l = take (end - start) (drop start l)
 pub record Until (end from : ℕ) (l : List ℕ) (r : ℕ) : Type 0 where
   pub least : from ≤ r
   pub most : r ≤ max from (length l)
+  pub free : (q : ℕ) → from ≤ q → q < r → getD l q 0 ≡ end → ⊥
   pub stands : r < length l → getD l r 0 ≡ end
   pub piece : from < length l → cut end from (drop from l) ≡ record { at = from; bytes = between from r l } ∷ cut end (r + 1) (drop (r + 1) l)
 
@@ -20,6 +21,7 @@ pub record Until (end from : ℕ) (l : List ℕ) (r : ℕ) : Type 0 where
 pub record Unspaced (from : ℕ) (l : List ℕ) (r : ℕ) : Type 0 where
   pub least : from ≤ r
   pub most : r ≤ max from (length l)
+  pub each : (q : ℕ) → from ≤ q → q < r → getD l q 0 ≡ code " "
   pub other : r < length l → getD l r 0 ≡ code " " → ⊥
   pub same-parts : placed from (drop from l) ≡ placed r (drop r l)
 

@@ -1,30 +1,17 @@
--- `road_form::read_line` meets its contract: its first two bytes and its last say which form a line can have.
+-- `road_form::read_line` meets its contract: an arc's line ends where it was read to, any other at the LF that was looked for.
 use borrow.Author.Needs.{needs}
-use Rattle.road_form.proofs.Heads.{no-byte, comment, one-byte, long-head, space-at-end, arc, problem, other-head}
+use Rattle.road_form.proofs.Arcs.{arc-begins, lent-length, plain, plain-said}
 use Rattle.road_form.proofs.forms.read_line.Statement.{statement}
 use Rattle.road_form.proofs.forms.read_line.Tie as tie
 
--- the first byte is no `c`, the second a space, the last none
 pub read-line-spec : {M : Type 1} → statement M
 read-line-spec =
     tie.close
     (tie.spec
-    (λ c. search no-byte)
-    (λ c. search needs)
-    (λ c. search comment)
-    (λ c. let plain : tie.Else2 = search needs in search (one-byte, plain .if2 .left))
-    (λ c. search needs)
-    (λ c. let plain : tie.Else2 = search needs in search (long-head, plain .if2 .left, c .if4 .taken))
-    (λ c. search needs)
-    (λ c. search needs)
-    (λ c. let plain : tie.Else2 = search needs in search (space-at-end, plain .if2 .left))
+    (λ c κs. search needs)
+    (λ c κs. search arc-begins)
     (λ c. search needs)
     (λ c κs. search needs)
-    (λ c. let plain : tie.Else2 = search needs in let closed : tie.Else5 = search needs in search (arc, plain .if2 .left, closed .if5 .left))
-    (λ c. search needs)
-    (λ c κs. search needs)
-    (λ c. let plain : tie.Else2 = search needs in let closed : tie.Else5 = search needs in search (problem, plain .if2 .left, closed .if5 .left))
-    (λ c.
-    let plain : tie.Else2 = search needs in
-    let no-arc : tie.Else6 = search needs in
-    search (other-head, plain .if2 .left, no-arc .if6 .left, c .if7 .left)))
+    (λ c. search lent-length)
+    (λ c κs. search plain)
+    (λ c. search plain-said))

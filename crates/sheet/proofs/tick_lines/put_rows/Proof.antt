@@ -2,7 +2,7 @@
 use Prim.Native.Nat.{_-_}
 use borrow.Author.Needs.{needs}
 use Rattle.sheet.specs.inner.Leaving.{leavingLine}
-use Rattle.sheet.proofs.Rounds.{Printed, begins, goes-on, ends}
+use Rattle.text.proofs.Rounds.{Printed, begins, goes-on, ends}
 use Rattle.sheet.proofs.tick_lines.put_rows.Statement.{statement}
 use Rattle.sheet.proofs.tick_lines.put_rows.Tie as tie
 
