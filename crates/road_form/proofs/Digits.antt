@@ -2,12 +2,11 @@
 use Prim.Native.Nat.{ℕ, zero, suc, _+_, _*_, _-_, _^_, _<_, _≤_, max}
 use Prim.Native.Char.{code}
 use native.Mathlib.Nat.{pow-succ', pow-le-pow-right}
-use native.Mathlib.Numerals.{add-one}
 use native.Mathlib.Omega.{arith}
 use native.Mathlib.Decide.{decLt, ℕ-discrete}
 use mathlib.Core.Path.{_≡_, refl, sym, ap, _∙_}
 use mathlib.Core.List.{List, [], _∷_, _++_, map}
-use mathlib.Core.Bool.{Bool, true, false, not, _&&_, _||_, and-false}
+use mathlib.Core.Bool.{true, false, not, _||_, and-false}
 use lib.ListN.{length, getD, take, drop, length-drop}
 use lib.Seq.{take-suc, getD-take, getD-drop}
 use lib.Dec.{ltb}
@@ -21,7 +20,6 @@ use Rattle.text.specs.Pieces.{bytesOf}
 use Rattle.text.specs.inner.Scan.{between, partsFrom, Until, Unspaced}
 use Rattle.text.proofs.Cuts.{below-from, width, found-here, parts-some, placed-end}
 use Rattle.text.proofs.Walks.{Passed, passed-one, passed-found, passed-all}
-use Rattle.road_form.specs.declared.numbers.Taken.{Taken}
 use Rattle.road_form.specs.declared.numbers.Taken.the-variants.{Number, Other}
 use Rattle.road_form.specs.Forms.{isNumeral}
 use Rattle.road_form.specs.inner.Numbers.{firstIs, NumberAt, Takes}

@@ -1,20 +1,18 @@
 -- The form of a line, from the parts that are found one after the other.
-use Prim.Native.Nat.{ℕ, _-_, _<_, _≤_, max}
-use Prim.Native.Char.{code}
+use Prim.Native.Nat.{ℕ, _-_, _<_, _≤_}
 use native.Mathlib.Omega.{arith}
 use mathlib.Core.Path.{_≡_, refl, sym, ap₂, subst, _∙_}
 use mathlib.Core.List.{List, [], _∷_}
-use mathlib.Core.Bool.{Bool, true, false, not, cond, _&&_, and-false}
-use lib.ListN.{length, getD}
+use mathlib.Core.Bool.{Bool, true, false, not, cond, and-false}
+use lib.ListN.{length}
 use lib.Seq.{take-length}
 use borrow.Author.Tests.{not-true, not-false}
 use Rattle.memory.specs.Lists.{same}
 use Rattle.text.specs.Ascii.{ascii}
-use Rattle.text.specs.Numeral.{decimal}
 use Rattle.text.specs.inner.Scan.{between, partsFrom, Found}
 use Rattle.text.proofs.Cuts.{parts-some, parts-none}
 use Rattle.road_form.specs.declared.forms.Line.{Line}
-use Rattle.road_form.specs.declared.forms.Line.the-variants.{Comment, Problem, Arc, Unknown}
+use Rattle.road_form.specs.declared.forms.Line.the-variants.{Problem, Arc, Unknown}
 use Rattle.road_form.specs.declared.numbers.Taken.{Taken}
 use Rattle.road_form.specs.declared.numbers.Taken.the-variants.{Number, Other}
 use Rattle.road_form.specs.Forms.{isNumeral, isShortest, threeParts, problemOf, arcOf, problemForm, arcForm}

@@ -1,5 +1,5 @@
 -- A numeral taken from a text, seen in the line that stands at the text's beginning.
-use Prim.Native.Nat.{ℕ, zero, suc, _+_, _-_, _<_, _≤_, max}
+use Prim.Native.Nat.{ℕ, zero, suc, _+_, _-_, _<_, _≤_}
 use Prim.Native.Char.{code}
 use native.Mathlib.Omega.{arith}
 use native.Mathlib.Decide.{decLt, ℕ-discrete}
@@ -15,7 +15,7 @@ use Rattle.text.proofs.Walks.{Spaces, spaces-none, spaces-one}
 use Rattle.road_form.specs.declared.numbers.Taken.{Taken}
 use Rattle.road_form.specs.declared.numbers.Taken.the-variants.{Number, Other}
 use Rattle.road_form.specs.inner.Numbers.{Takes, TakenFrom, Ended}
-use Rattle.road_form.proofs.Digits.{IsDigit, Counted, taken-space, taken-end, other-none, other-below, other-above, other-long}
+use Rattle.road_form.proofs.Digits.{Counted, taken-space, taken-end, other-none, other-below, other-above, other-long}
 
 -- `ended`
 module _ {start at value : ℕ} where

@@ -27,8 +27,8 @@ use Rattle.road_text.specs.declared.answer.RoadAnswer.the-variants.{Poin
 use Rattle.road_text.specs.declared.progress.Progress.{Progress}
 use Rattle.road_text.specs.declared.progress.Next.{Next}
 use Rattle.road_text.specs.declared.progress.Next.the-variants.{On, Stop}
-use Rattle.road_text.specs.Steps.{start, lineTests, after, endTests}
-use Rattle.road_text.specs.Reading.{Reading, refused, accepted, unless, follow, arcsOf, arcsIn, answered}
+use Rattle.road_text.specs.Steps.{start, after, endTests}
+use Rattle.road_text.specs.Reading.{Reading, refused, accepted, unless, follow, arcsOf, arcsIn}
 use Rattle.road_text.specs.inner.Kept.{Ready, Kept, Passed, Stepped, Ended, Filled, Followed}
 
 -- tests that gave a number, and tests that gave none

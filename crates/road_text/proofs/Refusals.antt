@@ -1,10 +1,9 @@
 -- K7's refusals in the paper's own conditions: each table of tests decides its conditions, and so does the whole reading.
 use Prim.Native.Nat.{ℕ, zero, suc}
-use mathlib.Core.Path.{_≡_, refl, sym, ap}
+use mathlib.Core.Path.{_≡_, refl, ap}
 use mathlib.Core.Logic.{_⊎_, inl, inr}
 use mathlib.Core.List.{List, [], _∷_}
-use mathlib.Core.Bool.{Bool, true, false, not, cond, _||_}
-use lib.Dec.{eqb}
+use mathlib.Core.Bool.{Bool, true, false, cond, _||_}
 use Rattle.refusals.specs.Tests.{first, outside}
 use Rattle.refusals.specs.Conditions.{Conditions, Returns, Exactly, Outside}
 use Rattle.refusals.proofs.Conditions.{Decides, applies, passes, row, none, either, decides-differ, decides-equal, decides-outside}

@@ -1,5 +1,5 @@
 -- What a line leads to, form by form.
-use Prim.Native.Nat.{ℕ, _+_, _*_, _<_, _≤_, _^_}
+use Prim.Native.Nat.{ℕ, _+_, _*_, _<_, _≤_}
 use native.Mathlib.Nat.{mul-le-mul}
 use native.Mathlib.Omega.{arith}
 use mathlib.Core.Path.{_≡_, refl, sym, ap, subst, _∙_}
@@ -7,18 +7,17 @@ use mathlib.Core.Logic.{_≢_}
 use mathlib.Core.List.{List, [], _∷_, append-nil}
 use mathlib.Core.Bool.{true, false, true≢false}
 use lib.Dec.{eqb}
-use lib.ListN.{length}
 use borrow.Author.Tests.{eq-eqb, ne-eqb}
 use Rattle.refusals.proofs.First.{First, hit, skip, clear, answers, same, within}
 use Rattle.road_form.specs.declared.forms.Arc.{Arc as ArcSaid}
 use Rattle.road_form.specs.declared.forms.Line.{Line}
 use Rattle.road_form.specs.declared.forms.Line.the-variants.{Comment, Problem, Arc, Unknown}
-use Rattle.road_table.specs.inner.Held.{Holds, Room, Begun, Joinable, Joined}
+use Rattle.road_table.specs.inner.Held.{Room, Begun, Joinable, Joined}
 use Rattle.road_text.specs.declared.progress.Progress.{Progress}
 use Rattle.road_text.specs.declared.progress.Next.{Next}
 use Rattle.road_text.specs.declared.progress.Next.the-variants.{On, Stop}
-use Rattle.road_text.specs.Steps.{lineTests, after}
-use Rattle.road_text.specs.inner.Kept.{Ready, Kept, Passed, Stepped}
+use Rattle.road_text.specs.Steps.{lineTests}
+use Rattle.road_text.specs.inner.Kept.{Ready, Passed, Stepped}
 
 module _ {s : Progress} {f : Line} {old new : List ℕ} where
   pub stopped : {k : ℕ} → First 0 (lineTests s f) k → eqb k 0 ≡ false → Stepped s f old (Stop k) new

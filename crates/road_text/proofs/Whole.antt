@@ -1,5 +1,5 @@
 -- An accepted file: its `p` line, its arcs, and the words of its table.
-use Prim.Native.Nat.{ℕ, zero, suc, _+_, _*_, _-_, _<_, _≤_}
+use Prim.Native.Nat.{ℕ, zero, suc, _+_, _*_, _-_, _≤_}
 use native.Mathlib.Nat.{mul-le-mul}
 use native.Mathlib.Omega.{arith}
 use mathlib.Core.Path.{_≡_, refl, sym, ap, ap₂, _∙_}
@@ -23,7 +23,7 @@ use Rattle.road_table.proofs.Words.{word-at, word-past, in-square}
 use Rattle.road_table.proofs.Shortest.{each-shortest}
 use Rattle.road_text.specs.declared.progress.Progress.{Progress}
 use Rattle.road_text.specs.Steps.{start, lineTests, after, endTests}
-use Rattle.road_text.specs.Reading.{Reading, refused, accepted, unless, follow, bufferTests, readingOf, arcsOf, arcsIn}
+use Rattle.road_text.specs.Reading.{Reading, accepted, unless, follow, bufferTests, readingOf, arcsOf, arcsIn}
 use Rattle.road_text.specs.claims.Whole.{InRange, Announced, wordAt, Roads, Whole}
 
 passed : (k : ℕ) (r : Reading) (n : ℕ) → unless k r ≡ accepted n → (k ≡ 0) × (r ≡ accepted n)

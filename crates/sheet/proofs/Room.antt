@@ -10,7 +10,6 @@ use lib.ListN.{length, drop, length-append}
 use lib.Seq.{take-all}
 use lib.Dec.{eqb, ltb}
 use borrow.Author.Tests.{eq-eqb, ne-eqb}
-use Rattle.text.specs.Ascii.{ascii}
 use Rattle.semiring.specs.Algebra.{noneOf}
 use Rattle.semiring.specs.declared.Algebra.{Algebra}
 use Rattle.semiring.specs.declared.Algebra.the-variants.{Reach, Distance, Steepest}

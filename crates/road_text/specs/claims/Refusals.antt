@@ -1,5 +1,5 @@
 -- K7's refusals, read both ways in the paper's own conditions: a number is returned exactly where its test is the first that applies.
-use Prim.Native.Nat.{ℕ, suc, _<_}
+use Prim.Native.Nat.{ℕ, suc}
 use mathlib.Core.Path.{_≡_}
 use mathlib.Core.Logic.{_≢_}
 use mathlib.Core.List.{List, [], _∷_}
@@ -7,7 +7,7 @@ use Rattle.refusals.specs.Conditions.{Conditions, otherwise, test, Returns, Exa
 use Rattle.text.specs.Pieces.{lines}
 use Rattle.road_form.specs.declared.forms.Arc.{Arc as ArcSaid}
 use Rattle.road_form.specs.declared.forms.Line.{Line}
-use Rattle.road_form.specs.declared.forms.Line.the-variants.{Comment, Problem, Arc, Unknown}
+use Rattle.road_form.specs.declared.forms.Line.the-variants.{Problem, Arc, Unknown}
 use Rattle.road_form.specs.Forms.{formOf}
 use Rattle.road_text.specs.declared.progress.Progress.{Progress}
 use Rattle.road_text.specs.Steps.{start, after}

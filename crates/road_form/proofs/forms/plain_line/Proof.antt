@@ -17,7 +17,7 @@ plain-line-spec =
     (λ c. let plain : tie.Else2 = search needs in search (long-head, plain .if2 .left, c .if4 .taken))
     (λ c. search needs)
     (λ c. search needs)
-    (λ c. let plain : tie.Else2 = search needs in search (space-at-end, plain .if2 .left))
+    (λ c. let plain : tie.Else2 = search needs in space-at-end _ (search needs) (plain .if2 .left) (c .if5 .taken))
     (λ c. search needs)
     (λ c κs. search needs)
     (λ c. let plain : tie.Else2 = search needs in let closed : tie.Else5 = search needs in search (problem, plain .if2 .left, closed .if5 .left))
