@@ -20,7 +20,8 @@ use Rattle.road_text.specs.Reading.{accepted, readingOf, arcsIn, wordIn, tableA
 use Rattle.road_sheet.specs.Rows.{tableText, refusedText}
 use Rattle.road_sheet.specs.Sheet.{printed, roadSheetOf}
 use Rattle.road_sheet.specs.inner.Tables.{ToClose, Rooms}
-use Rattle.road_sheet.proofs.Points.{points-ranged, table-words}
+use Rattle.road_text.proofs.Whole.{accepted-points}
+use Rattle.road_sheet.proofs.Points.{table-words}
 
 module _ (file : List ℕ) {old closed : List ℕ} (asked : Rooms old closed) {answer : RoadAnswer} {table : List ℕ}
     (read : RoadRead (length old) file answer table) where
@@ -41,7 +42,7 @@ module _ (file : List ℕ) {old closed : List ℕ} (asked : Rooms old closed) {a
     table-is = read .memory ∙ ap (λ (m : ℕ). tableAfter m file) (asked .table-room)
 
     points-most : n ≤ 128
-    points-most = points-ranged 16384 file n reading .1
+    points-most = accepted-points 16384 file n reading .1
 
     pub words-room : Fits w64 (n * n)
     words-room = cells-room points-most
@@ -63,7 +64,7 @@ module _ (file : List ℕ) {old closed : List ℕ} (asked : Rooms old closed) {a
 
     pub to-close : ToClose n (take (n * n) table) (take (n * n) closed)
     to-close = record {
-      least = points-ranged 16384 file n reading .0;
+      least = accepted-points 16384 file n reading .0;
       most = points-most;
       table-fits = sym table-part;
       closed-fits = sym closed-part;

@@ -1,4 +1,4 @@
--- What an accepted file is known to have: 1 to 128 points, words of distance in its table, and in the buffer's first words that table.
+-- What an accepted file is known to have: words of distance in its table, and in the buffer's first words that table.
 use Prim.Native.Nat.{ℕ, _+_, _*_, _/_, _%_, _<_, _≤_}
 use native.Mathlib.Omega.{arith}
 use native.Mathlib.Decide.{decLt}
@@ -15,11 +15,7 @@ use Rattle.text.specs.Pieces.{lines}
 use Rattle.road_form.specs.declared.forms.Arc.{Arc as ArcSaid}
 use Rattle.road_table.specs.Table.{lengths, least, entry, wordOf}
 use Rattle.road_text.specs.Reading.{Reading, refused, accepted, readingOf, arcsIn, wordIn, tableAfter}
-use Rattle.road_text.proofs.Whole.{announced}
 use Rattle.road_sheet.specs.Sheet.{roadTable}
-
-pub points-ranged : (m : ℕ) (file : List ℕ) (n : ℕ) → readingOf m file ≡ accepted n → (1 ≤ n) × (n ≤ 128)
-points-ranged m file n e = announced m file n e .points
 
 -- Every word of a table is at most none.
 least-most : (ls : List ℕ) → least ls ≤ 65535

@@ -20,7 +20,7 @@ use Rattle.road_text.specs.Reading.{Reading, refused, accepted, readingOf}
 use Rattle.road_sheet.specs.Rows.{shownWord, afterWord, entryText, rowLine, tableText, refusedText}
 use Rattle.road_sheet.specs.Sheet.{closedTable, printed, roadSheetOf}
 use Rattle.road_sheet.specs.claims.Shown.{pageBytes, Room}
-use Rattle.road_sheet.proofs.Points.{points-ranged}
+use Rattle.road_text.proofs.Whole.{accepted-points}
 
 refused-length : (number : ℕ) → length (refusedText number) ≤ 16
 refused-length number = simp length-append (omega (arith, numeral-most 5 number))
@@ -50,7 +50,7 @@ module _ (n : ℕ) (table : List ℕ) where
 room-by : (file : List ℕ) (r : Reading) → readingOf 16384 file ≡ r → length (printed file r) ≤ pageBytes
 room-by file (refused number) e = omega (arith, refused-length number)
 room-by file (accepted n) e =
-    let most : n ≤ 128 = points-ranged 16384 file n e .1 in
+    let most : n ≤ 128 = accepted-points 16384 file n e .1 in
     omega (arith, table-length n (closedTable n file), square-fits most)
 
 pub room : Room

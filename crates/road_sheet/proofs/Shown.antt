@@ -13,7 +13,8 @@ use Rattle.closure.proofs.Holds.{rowByRow-holds}
 use Rattle.text.proofs.Numerals.{numerals}
 use Rattle.road_sheet.specs.Sheet.{roadTable, closedTable, printed}
 use Rattle.road_sheet.specs.claims.Shown.{closedWord, Road-sheet}
-use Rattle.road_sheet.proofs.Points.{points-ranged, table-words}
+use Rattle.road_text.proofs.Whole.{accepted-points}
+use Rattle.road_sheet.proofs.Points.{table-words}
 
 closed-holds : (n : ℕ) (file : List ℕ) → Holds n (closedWord n file) (closedTable n file)
 unfolding eliminated
@@ -21,8 +22,8 @@ closed-holds n file = rowByRow-holds n (closedWord n file)
 
 pub road-sheet : Road-sheet
 road-sheet file n e = record {
-  least = points-ranged 16384 file n e .0;
-  most = points-ranged 16384 file n e .1;
+  least = accepted-points 16384 file n e .0;
+  most = accepted-points 16384 file n e .1;
   rows = ap (printed file) e;
   words = λ i j hi hj. closed-holds n file .word i j hi hj;
   none = λ i j hi hj isNone. rw (eq-eqb (closedWord n file i j) (noneOf Distance) isNone);

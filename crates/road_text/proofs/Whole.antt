@@ -3,15 +3,14 @@ use Prim.Native.Nat.{ℕ, zero, suc, _+_, _*_, _-_, _≤_}
 use native.Mathlib.Nat.{mul-le-mul}
 use native.Mathlib.Omega.{arith}
 use mathlib.Core.Path.{_≡_, refl, sym, ap, ap₂, _∙_}
-use mathlib.Core.Logic.{_⊎_, inl, inr}
 use mathlib.Core.Bool.{false, true≢false}
-use mathlib.Core.List.{List, [], _∷_, _++_, List·Memᴰ, List·Memᴰ·head, List·Memᴰ·tail, List·Memᴰ·not-nil, List·Memᴰ·cases-cons}
-use lib.ListN.{length}
-use borrow.Author.Tests.{eq-eqb}
+use mathlib.Core.List.{List, [], _∷_}
+use lib.Dec.{eqb}
+use borrow.Author.Tests.{eq-eqb, ne-eqb}
 use Rattle.memory.specs.Lists.{listOf}
 use Rattle.memory.proofs.ListOf.{length-listOf, getD-listOf}
 use Rattle.refusals.specs.Tests.{first, outside}
-use Rattle.refusals.proofs.First.{none-applied, inside, equal}
+use Rattle.refusals.proofs.First.{none-applied, inside, equal, within}
 use Rattle.text.specs.Pieces.{lines}
 use Rattle.road_form.specs.declared.forms.Arc.{Arc as ArcSaid}
 use Rattle.road_form.specs.declared.forms.Line.{Line}
@@ -23,110 +22,114 @@ use Rattle.road_table.proofs.Words.{word-at, word-past, in-square}
 use Rattle.road_table.proofs.Shortest.{each-shortest}
 use Rattle.road_text.specs.declared.progress.Progress.{Progress}
 use Rattle.road_text.specs.Steps.{start, lineTests, after, endTests}
-use Rattle.road_text.specs.Reading.{Reading, accepted, unless, follow, bufferTests, readingOf, arcsOf, arcsIn}
-use Rattle.road_text.specs.claims.Whole.{InRange, Announced, wordAt, Roads, Whole}
+use Rattle.road_text.specs.Reading.{Reading, accepted, unless, follow, bufferTests, readingOf, arcsIn}
+use Rattle.road_text.specs.claims.Whole.{InRange, ArcLines, ends, comment-between, arc, RoadLines, comment-before, problem, wordAt, Roads, Whole}
 
 passed : (k : ℕ) (r : Reading) (n : ℕ) → unless k r ≡ accepted n → (k ≡ 0) × (r ≡ accepted n)
 passed zero r n e = (refl, e)
 passed (suc k) r n e = let z : _≡_ {A = ℕ} 0 1 = cc in absurd (omega arith)
 
--- The lines after the `p` line: as many arcs as are still to come, each from point to point.
-record Rest (s : Progress) (n : ℕ) (arcs : List ArcSaid) : Type 0 where
+-- The lines after the `p` line.
+record Rest (s : Progress) (n : ℕ) (ls : List (List ℕ)) : Type 0 where
+  count : ℕ
+  arcs : ArcLines n ls count
   points : s .points ≡ n
-  count : s .count + length arcs ≡ s .arcs
-  ends : (a : ArcSaid) → List·Memᴰ a arcs → InRange n (a .from) × InRange n (a .to)
+  all : s .count + count ≡ s .arcs
 
-line-rest : (s : Progress) (f : Line) (n : ℕ) (arcs : List ArcSaid) → 1 ≤ s .points → first 0 (lineTests s f) ≡ 0 → Rest (after s f) n arcs
-    → Rest s n (arcsOf f ++ arcs)
-line-rest s Comment n arcs some clear r = r
-line-rest s Unknown n arcs some clear r = r
-line-rest s (Problem p m) n arcs some clear r =
-    let (early, rest) = none-applied (lineTests s (Problem p m)) refl clear in
-    absurd (omega (arith, equal (s .points) 0 early))
-line-rest s (Arc a) n arcs some clear r =
-    let (early, (from, (to, rest))) = none-applied (lineTests s (Arc a)) refl clear in
-    record {
-      points = r .points;
-      count = omega (arith, r .count);
-      ends = λ b m. by b from to (List·Memᴰ·cases-cons m);
-    }
-  where
-    by : (b : ArcSaid) → outside 1 (s .points) (a .from) ≡ false → outside 1 (s .points) (a .to) ≡ false → (b ≡ a) ⊎ List·Memᴰ b arcs
-        → InRange n (b .from) × InRange n (b .to)
-    by b from to (inl e) = rw (e, ← r .points) (inside from, inside to)
-    by b from to (inr m) = r .ends b m
+module _ (l : List ℕ) (ls : List (List ℕ)) (s : Progress) (n : ℕ) (some : 1 ≤ s .points) where
+  rest-by : (f : Line) → formOf l ≡ f → first 0 (lineTests s f) ≡ 0 → follow ls (after s f) ≡ accepted n
+      → ((t : Progress) → 1 ≤ t .points → follow ls t ≡ accepted n → Rest t n ls) → Rest s n (l ∷ ls)
+  rest-by Comment e clear is later =
+      let r = later s some is in
+      record { count = r .count; arcs = comment-between e (r .arcs); points = r .points; all = r .all }
+  rest-by Unknown e clear is later = absurd (omega arith)
+  rest-by (Problem p m) e clear is later =
+      let (early, more) = none-applied (lineTests s (Problem p m)) refl clear in
+      absurd (omega (arith, equal (s .points) 0 early))
+  rest-by (Arc a) e clear is later =
+      let (early, (from, (to, more))) = none-applied (lineTests s (Arc a)) refl clear in
+      let r = later (after s (Arc a)) some is in
+      record {
+        count = suc (r .count);
+        arcs = arc e (rw (← r .points) (inside from)) (rw (← r .points) (inside to)) (r .arcs);
+        points = r .points;
+        all = omega (arith, r .all);
+      }
 
-opened-after : (s : Progress) (f : Line) → 1 ≤ s .points → first 0 (lineTests s f) ≡ 0 → 1 ≤ after s f .points
-opened-after s Comment some clear = some
-opened-after s Unknown some clear = some
-opened-after s (Problem p m) some clear = let (early, rest) = none-applied (lineTests s (Problem p m)) refl clear in absurd (omega (arith, equal (s .points) 0 early))
-opened-after s (Arc a) some clear = some
-
-lines-rest : (ls : List (List ℕ)) (s : Progress) (n : ℕ) → 1 ≤ s .points → follow ls s ≡ accepted n → Rest s n (arcsIn ls)
-unfolding follow arcsIn
+lines-rest : (ls : List (List ℕ)) (s : Progress) (n : ℕ) → 1 ≤ s .points → follow ls s ≡ accepted n → Rest s n ls
+unfolding follow
 lines-rest [] s n some e =
     let (clear, is) = passed (first 0 (endTests s)) (accepted (s .points)) n e in
-    let (early, (count, rest)) = none-applied (endTests s) refl clear in
-    record {
-      points = accepted-same is;
-      count = omega (arith, equal (s .count) (s .arcs) count);
-      ends = λ a m. absurd (List·Memᴰ·not-nil m);
-    }
+    let (early, (count, more)) = none-applied (endTests s) refl clear in
+    record { count = 0; arcs = ends; points = accepted-same is; all = omega (arith, equal (s .count) (s .arcs) count) }
   where
     accepted-same : {i j : ℕ} → accepted i ≡ accepted j → i ≡ j
     accepted-same e = cc
 lines-rest (l ∷ ls) s n some e =
     let (clear, is) = passed (first 0 (lineTests s (formOf l))) (follow ls (after s (formOf l))) n e in
-    line-rest s (formOf l) n (arcsIn ls) some clear (lines-rest ls (after s (formOf l)) n (opened-after s (formOf l) some clear) is)
+    rest-by l ls s n some (formOf l) refl clear is (λ t h f. lines-rest ls t n h f)
 
 -- The lines up to the `p` line.
 module _ (l : List ℕ) (ls : List (List ℕ)) (s : Progress) (n : ℕ) (none : s .points ≡ 0) where
-  later : (f : Line) → formOf l ≡ f → arcsOf f ≡ [] → Announced n ls → Announced n (l ∷ ls)
-  unfolding arcsIn
-  later f e no-arc a =
-      let same : arcsIn ls ≡ arcsOf (formOf l) ++ arcsIn ls = rw (e, no-arc) in
-      record {
-        line = a .line;
-        there = List·Memᴰ·tail (a .there);
-        says = a .says ∙ ap (λ (arcs : List ArcSaid). Problem n (length arcs)) same;
-        points = a .points;
-        ends = λ b m. a .ends b (rw (← same) at m);
-      }
-
-  announced-by : (f : Line) → formOf l ≡ f → first 0 (lineTests s f) ≡ 0 → follow ls (after s f) ≡ accepted n
-      → (follow ls s ≡ accepted n → Announced n ls) → Announced n (l ∷ ls)
-  unfolding arcsIn
-  announced-by Comment e clear is rest = later Comment e refl (rest is)
-  announced-by Unknown e clear is rest = absurd (omega arith)
-  announced-by (Arc a) e clear is rest =
+  road-by : (f : Line) → formOf l ≡ f → first 0 (lineTests s f) ≡ 0 → follow ls (after s f) ≡ accepted n → (follow ls s ≡ accepted n → RoadLines n ls)
+      → RoadLines n (l ∷ ls)
+  road-by Comment e clear is later = comment-before e (later is)
+  road-by Unknown e clear is later = absurd (omega arith)
+  road-by (Arc a) e clear is later =
       let (early, more) = none-applied (lineTests s (Arc a)) refl clear in
       absurd (true≢false (sym (eq-eqb (s .points) 0 none) ∙ early))
-  announced-by (Problem p m) e clear is rest =
+  road-by (Problem p m) e clear is later =
       let (early, (range, more)) = none-applied (lineTests s (Problem p m)) refl clear in
-      let r : Rest (after s (Problem p m)) n (arcsIn ls) = lines-rest ls (after s (Problem p m)) n (inside range .0) is in
-      let all-counted : m ≡ length (arcsIn ls) = omega (arith, r .count) in
-      let same : arcsIn ls ≡ arcsOf (formOf l) ++ arcsIn ls = rw e in
-      record {
-        line = l;
-        there = List·Memᴰ·head refl;
-        says = e ∙ ap₂ Problem (r .points) (all-counted ∙ ap length same);
-        points = rw (← r .points) (inside range);
-        ends = λ b k. r .ends b (rw (← same) at k);
-      }
+      let r : Rest (after s (Problem p m)) n ls = lines-rest ls (after s (Problem p m)) n (inside range .0) is in
+      let arcs-are : r .count ≡ m = omega (arith, r .all) in
+      problem (e ∙ ap₂ Problem (r .points) (sym arcs-are)) (rw (← r .points) (inside range)) (r .arcs)
 
-lines-announced : (ls : List (List ℕ)) (s : Progress) (n : ℕ) → s .points ≡ 0 → follow ls s ≡ accepted n → Announced n ls
+road-lines : (ls : List (List ℕ)) (s : Progress) (n : ℕ) → s .points ≡ 0 → follow ls s ≡ accepted n → RoadLines n ls
 unfolding follow
-lines-announced [] s n none e =
+road-lines [] s n none e =
     let (clear, is) = passed (first 0 (endTests s)) (accepted (s .points)) n e in
     let (early, more) = none-applied (endTests s) refl clear in
     absurd (true≢false (sym (eq-eqb (s .points) 0 none) ∙ early))
-lines-announced (l ∷ ls) s n none e =
+road-lines (l ∷ ls) s n none e =
     let (clear, is) = passed (first 0 (lineTests s (formOf l))) (follow ls (after s (formOf l))) n e in
-    announced-by l ls s n none (formOf l) refl clear is (λ h. lines-announced ls s n none h)
+    road-by l ls s n none (formOf l) refl clear is (λ h. road-lines ls s n none h)
 
-pub announced : (m : ℕ) (file : List ℕ) (n : ℕ) → readingOf m file ≡ accepted n → Announced n (lines file)
+lines-are : (m : ℕ) (file : List ℕ) (n : ℕ) → readingOf m file ≡ accepted n → RoadLines n (lines file)
 unfolding readingOf
-announced m file n e = lines-announced (lines file) start n refl (passed (first 0 (bufferTests m)) (follow (lines file) start) n e .1)
+lines-are m file n e = road-lines (lines file) start n refl (passed (first 0 (bufferTests m)) (follow (lines file) start) n e .1)
+
+points-of : {n : ℕ} {ls : List (List ℕ)} → RoadLines n ls → InRange 128 n
+points-of (comment-before e r) = points-of r
+points-of (problem e h a) = h
+
+pub accepted-points : (m : ℕ) (file : List ℕ) (n : ℕ) → readingOf m file ≡ accepted n → InRange 128 n
+accepted-points m file n e = points-of (lines-are m file n e)
+
+-- And back: such lines are accepted.
+arcs-accepted : {n count : ℕ} {ls : List (List ℕ)} → ArcLines n ls count → (s : Progress) → s .points ≡ n → 1 ≤ n → s .count + count ≡ s .arcs
+    → follow ls s ≡ accepted n
+unfolding follow
+arcs-accepted {n} ends s p some all =
+    let none : eqb (s .points) 0 ≡ false = ne-eqb (s .points) 0 (λ z. omega arith) in
+    let counted : s .count ≡ s .arcs = omega arith in
+    rw (none, eq-eqb (s .count) (s .arcs) counted) (ap accepted p)
+arcs-accepted (comment-between e a) s p some all = rw e (arcs-accepted a s p some all)
+arcs-accepted {n} (arc {a = a} e from to more) s p some all =
+    let none : eqb (s .points) 0 ≡ false = ne-eqb (s .points) 0 (λ z. omega arith) in
+    let f : outside 1 (s .points) (a .from) ≡ false = within 1 (s .points) (a .from) (from .0) (omega (arith, from .1)) in
+    let t : outside 1 (s .points) (a .to) ≡ false = within 1 (s .points) (a .to) (to .0) (omega (arith, to .1)) in
+    rw (e, none, f, t) (arcs-accepted more (after s (Arc a)) p some (omega arith))
+
+road-accepted : {n : ℕ} {ls : List (List ℕ)} → RoadLines n ls → follow ls start ≡ accepted n
+unfolding follow
+road-accepted (comment-before e r) = rw e (road-accepted r)
+road-accepted {n} (problem {arcs = m} e h a) =
+    let range : outside 1 128 n ≡ false = within 1 128 n (h .0) (h .1) in
+    rw (e, range) (arcs-accepted a (after start (Problem n m)) refl (h .0) (omega arith))
+
+accepts : (file : List ℕ) (n : ℕ) → RoadLines n (lines file) → readingOf 16384 file ≡ accepted n
+unfolding readingOf
+accepts file n r = road-accepted r
 
 -- The words of its table.
 module _ (n : ℕ) (arcs : List ArcSaid) (few : n ≤ 128) where
@@ -153,9 +156,8 @@ module _ (n : ℕ) (arcs : List ArcSaid) (few : n ≤ 128) where
 
 pub whole : Whole
 unfolding all
-whole file n e =
-    let a : Announced n (lines file) = announced 16384 file n e in
-    record {
-      announced = a;
-      roads = rw e (roads n (arcsIn (lines file)) (a .points .1));
-    }
+whole file n = record {
+  lines-are = lines-are 16384 file n;
+  accepts = accepts file n;
+  roads = λ e. rw e (roads n (arcsIn (lines file)) (accepted-points 16384 file n e .1));
+}
