@@ -1,6 +1,7 @@
 /*
  * Reads an office's drawing of a hall, closes it and prints the length of the shortest way for each pair of points, - where
- * there is none; then the number of a drawing that is refused. It ends with status 1 where a refused table is not zeros.
+ * there is none; then the number of a drawing that is refused. It ends with status 1 where the first is refused, or the second leaves
+ * anything but zeros in the table or changes the number of points.
  */
 #include "paths.h"
 #include "road.h"

@@ -9,7 +9,7 @@
 extern "C" {
 #endif
 
-/* The words of the table's buffer: 128 points, and a row of 128 words each. */
+/* The words of the table's buffer: room for 128 rows of 128 words. */
 #define ROAD_TABLE_WORDS 16384
 
 /* What a call returns. A line is tested for 21 and then for 22; the first line that is refused gives the number. */

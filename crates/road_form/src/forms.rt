@@ -60,15 +60,15 @@ fn begins_arc(text: &[u8]) -> bool
     text[1] == b' '
 }
 
-// An arc's line ends where its last numeral does, so that no byte of it is looked at twice.
+// An arc's line ends where its last numeral does: the LF is not looked for before, and each digit is read once.
 fn arc_line(text: &[u8]) -> Said
     requires { ⌜ ArcBegins (now text) ⌝ }
     ensures { λ r. ⌜ LineSaid (now (text .entry)) r ⌝ }
 {
-    let Taken::Number { value: tail, end } = next_number(text, 1) else {
+    let Taken::Number { value: from, end } = next_number(text, 1) else {
         return unknown(text);
     };
-    let Taken::Number { value: head, end } = next_number(text, end) else {
+    let Taken::Number { value: to, end } = next_number(text, end) else {
         return unknown(text);
     };
     let Taken::Number { value: length, end } = next_number(text, end) else {
@@ -78,21 +78,17 @@ fn arc_line(text: &[u8]) -> Said
         return unknown(text);
     }
     Said {
-        line: Line::Arc(Arc {
-            from: tail,
-            to: head,
-            length,
-        }),
+        line: Line::Arc(Arc { from, to, length }),
         end,
     }
 }
 
 // What stands after `p`.
-fn problem_line(line: &[u8], from: usize) -> Line
+fn problem_line(line: &[u8]) -> Line
     requires { ⌜ Plain (now line) ⌝ }
-    ensures { λ r. ⌜ Says problemForm (partsFrom from (now (line .entry))) r ⌝ }
+    ensures { λ r. ⌜ Says problemForm (partsFrom 1 (now (line .entry))) r ⌝ }
 {
-    let kind = next_part(line, from);
+    let kind = next_part(line, 1);
     let start = kind.start;
     let end = kind.end;
     if end <= start {
@@ -135,7 +131,7 @@ fn plain_line(line: &[u8]) -> Line
         return Line::Unknown;
     }
     if line[0] == b'p' {
-        return problem_line(line, 1);
+        return problem_line(line);
     }
     Line::Unknown
 }

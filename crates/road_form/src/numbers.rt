@@ -1,5 +1,4 @@
 // The numerals of a line, each looked at once.
-ghost use mathlib.Core.Path.{_≡_};
 ghost use Rattle.road_form.specs.inner.Numbers.{TakenFrom, Ended};
 use text::unspaced;
 

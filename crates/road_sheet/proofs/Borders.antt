@@ -32,6 +32,7 @@ answers = record {
   eleven-digits = refl;
   sign = refl;
   glued = refl;
+  over-two-lines = refl;
   part-short = refl;
   part-more = refl;
   other-problem = refl;

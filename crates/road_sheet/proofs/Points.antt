@@ -3,7 +3,7 @@ use Prim.Native.Nat.{ℕ, _+_, _*_, _/_, _%_, _<_, _≤_}
 use native.Mathlib.Omega.{arith}
 use native.Mathlib.Decide.{decLt}
 use mathlib.Core.Path.{_≡_, ap, _∙_}
-use mathlib.Core.List.{List, [], _∷_}
+use mathlib.Core.List.{List}
 use mathlib.Core.Bool.{Bool, true, false, cond}
 use lib.Dec.{eqb, ltb}
 use lib.ListN.{length, getD, take, length-take, List·getD-eq-default}
@@ -14,15 +14,11 @@ use Rattle.memory.proofs.ListOf.{length-listOf, getD-listOf, is-listOf}
 use Rattle.text.specs.Pieces.{lines}
 use Rattle.road_form.specs.declared.forms.Arc.{Arc as ArcSaid}
 use Rattle.road_table.specs.Table.{lengths, least, entry, wordOf}
+use Rattle.road_table.proofs.Shortest.{least-most}
 use Rattle.road_text.specs.Reading.{Reading, refused, accepted, readingOf, arcsIn, wordIn, tableAfter}
 use Rattle.road_sheet.specs.Sheet.{roadTable}
 
 -- Every word of a table is at most none.
-least-most : (ls : List ℕ) → least ls ≤ 65535
-unfolding least
-least-most [] = omega arith
-least-most (l ∷ ls) = omega (arith, least-most ls)
-
 word-most : (n : ℕ) (arcs : List ArcSaid) (q : ℕ) → wordOf n arcs q ≤ 65535
 unfolding wordOf
 word-most n arcs q = outer (ltb q (n * n))

@@ -1,6 +1,5 @@
 -- The two walks that lay a table with no arc: none in its words, then 0 on its diagonal.
 use Prim.Native.Nat.{ℕ, _+_, _*_, _<_, _≤_}
-use native.Mathlib.Nat.{mul-le-mul}
 use native.Mathlib.Omega.{arith}
 use native.Mathlib.Decide.{ℕ-discrete}
 use mathlib.Core.Path.{_≡_, refl, _∙_}
@@ -10,6 +9,7 @@ use lib.Seq.{getD-set-same, getD-set-other}
 use mir.Syntax.{w64}
 use mir.Val.{Fits}
 use Rattle.memory.specs.Walked.{Walked}
+use Rattle.memory.proofs.Geometry.{row-room, place-room, bytes-room}
 use Rattle.memory.proofs.Walk.{walked-none, walked-one, walked-to}
 use Rattle.semiring.specs.declared.Algebra.the-variants.{Distance}
 use Rattle.semiring.specs.Algebra.{noneOf}
@@ -54,19 +54,14 @@ module _ {n : ℕ} {old : List ℕ} where
   }
 
   module _ {i : ℕ} {l : List ℕ} (c : Clearing n old i l) where
-    small : i < n → i * n + i < 16384
-    small h =
-        let s : n * n ≤ 128 * 128 = mul-le-mul (c .room .few) (c .room .few) in
-        omega (arith, on-square n i h)
-
     pub row-fits : i < n → Fits w64 (i * n)
-    row-fits h = omega (arith, small h)
+    row-fits h = row-room (c .room .few) i h
 
     pub place-fits : i < n → Fits w64 (i * n + i)
-    place-fits h = omega (arith, small h)
+    place-fits h = place-room (c .room .few) i i h h
 
     pub bytes-fit : i < n → Fits w64 ((i * n + i) * 2)
-    bytes-fit h = omega (arith, small h)
+    bytes-fit h = bytes-room (c .room .few) i i h h
 
     pub clearing-place : i < n → i * n + i < length l
     clearing-place h = omega (arith, on-square n i h, c .room .room, c .cleared .size)

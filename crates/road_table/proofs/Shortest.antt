@@ -12,6 +12,11 @@ use Rattle.road_table.specs.Table.{held, joins, lengths, least}
 use Rattle.road_table.specs.claims.Shortest.{Joining, Shortest, Each-shortest}
 use Rattle.road_table.proofs.Words.{joined-both}
 
+pub least-most : (ls : List ℕ) → least ls ≤ 65535
+unfolding least
+least-most [] = omega arith
+least-most (l ∷ ls) = omega (arith, least-most ls)
+
 module _ (i j : ℕ) where
   joins-true : (a : Arc) → a .from ≡ i → a .to ≡ j → joins i j a ≡ true
   joins-true a e f = rw (eq-eqb (a .from) i e, eq-eqb (a .to) j f)
@@ -76,17 +81,12 @@ module _ (i j : ℕ) where
       none g k (inl q) = never g q
       none g k (inr h) = k (h .0)
 
-  bounded : (ls : List ℕ) → least ls ≤ 65535
-  unfolding least
-  bounded [] = omega arith
-  bounded (l ∷ ls) = omega (arith, bounded ls)
-
   more : (a : Arc) (arcs : List Arc) → Shortest arcs i j (least (lengths i j arcs)) → (b : Bool) → joins i j a ≡ b
       → Shortest (a ∷ arcs) i j (least (lengths i j (a ∷ arcs)))
   unfolding lengths least
   more a arcs s true e =
       let both : (a .from ≡ i) × (a .to ≡ j) = joined-both a i j e in
-      rw e (with-joined a arcs (least (lengths i j arcs)) (both .0) (both .1) (bounded (lengths i j arcs)) s)
+      rw e (with-joined a arcs (least (lengths i j arcs)) (both .0) (both .1) (least-most (lengths i j arcs)) s)
   more a arcs s false e = rw e (with-other a arcs (least (lengths i j arcs)) (λ p q. true≢false (sym (joins-true a p q) ∙ e)) s)
 
   shortest-of : (arcs : List Arc) → Shortest arcs i j (least (lengths i j arcs))

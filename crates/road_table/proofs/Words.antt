@@ -1,6 +1,6 @@
 -- The words of a table, and the word that an arc more changes.
 use Prim.Native.Nat.{ℕ, zero, suc, _+_, _*_, _-_, _/_, _%_, _<_, _≤_, min}
-use native.Mathlib.Nat.{mul-le-mul, div-add-mod', div-lt-iff-lt-mul}
+use native.Mathlib.Nat.{div-add-mod', div-lt-iff-lt-mul}
 use native.Mathlib.Omega.{arith}
 use native.Mathlib.Decide.{decLt, ℕ-discrete}
 use mathlib.Core.Path.{_≡_, refl, sym, ap, ap₂, _∙_}
@@ -17,12 +17,13 @@ use borrow.Author.Tests.{lt-ltb, le-ltb, eq-eqb, ne-eqb, eqb-true}
 use Rattle.memory.specs.Lists.{listOf}
 use Rattle.memory.specs.Walked.{Walked}
 use Rattle.memory.proofs.Any.{both-true}
+use Rattle.memory.proofs.Geometry.{row-room, place-room, bytes-room}
 use Rattle.memory.proofs.ListOf.{is-listOf}
 use Rattle.semiring.specs.declared.Algebra.the-variants.{Distance}
 use Rattle.semiring.specs.Algebra.{noneOf}
 use Rattle.road_form.specs.declared.forms.Arc.{Arc}
 use Rattle.road_table.specs.Table.{held, joins, lengths, least, entry, wordOf}
-use Rattle.road_table.specs.inner.Held.{Holds, Cleared, Room, DiagonalCleared, Begun, Within, Joinable, Joined}
+use Rattle.road_table.specs.inner.Held.{Holds, Cleared, DiagonalCleared, Begun, Within, Joinable, Joined}
 
 pub word-past : (n : ℕ) (arcs : List Arc) (q : ℕ) → n * n ≤ q → wordOf n arcs q ≡ 0
 unfolding wordOf
@@ -135,11 +136,14 @@ abbrev place : ℕ → Arc → ℕ
 place n a = (a .from - 1) * n + (a .to - 1)
 
 module _ {n : ℕ} {a : Arc} (w : Within n a) where
-  pub in-square : place n a < n * n
-  in-square = digits-lt {q = a .from - 1} {m = n} {r = a .to - 1} {c = n} (omega (arith, w .from-least, w .from-most)) (omega (arith, w .to-least, w .to-most))
+  row-below : a .from - 1 < n
+  row-below = omega (arith, w .from-least, w .from-most)
 
   column-below : a .to - 1 < n
   column-below = omega (arith, w .to-least, w .to-most)
+
+  pub in-square : place n a < n * n
+  in-square = digits-lt {q = a .from - 1} {m = n} {r = a .to - 1} {c = n} row-below column-below
 
   row-of : place n a / n + 1 ≡ a .from
   row-of = let e : place n a / n ≡ a .from - 1 = digits-div (a .from - 1) {m = n} {r = a .to - 1} column-below in omega (arith, w .from-least)
@@ -180,19 +184,13 @@ module _ {n : ℕ} {a : Arc} {old : List ℕ} (t : Joinable n a old) where
   place-inside = omega (arith, in-square (t .within), t .room .room)
 
   pub row-fits : Fits w64 ((a .from - 1) * n)
-  row-fits =
-      let s : n * n ≤ 128 * 128 = mul-le-mul (t .room .few) (t .room .few) in
-      omega (arith, in-square (t .within))
+  row-fits = row-room (t .room .few) (a .from - 1) (row-below (t .within))
 
   pub place-fits : Fits w64 (place n a)
-  place-fits =
-      let s : n * n ≤ 128 * 128 = mul-le-mul (t .room .few) (t .room .few) in
-      omega (arith, in-square (t .within))
+  place-fits = place-room (t .room .few) (a .from - 1) (a .to - 1) (row-below (t .within)) (column-below (t .within))
 
   pub bytes-fit : Fits w64 (place n a * 2)
-  bytes-fit =
-      let s : n * n ≤ 128 * 128 = mul-le-mul (t .room .few) (t .room .few) in
-      omega (arith, in-square (t .within))
+  bytes-fit = bytes-room (t .room .few) (a .from - 1) (a .to - 1) (row-below (t .within)) (column-below (t .within))
 
   -- the table with an arc more
   pub joined : {v x : ℕ} → v ≡ min (getD old (place n a) 0) x → x ≡ held (a .length) → Joined n a old (set old (place n a) v)

@@ -4,13 +4,13 @@ use native.Mathlib.Omega.{arith}
 use mathlib.Core.Path.{_≡_, refl, sym, ap, subst, _∙_}
 use mathlib.Core.Logic.{_≢_}
 use mathlib.Core.List.{List, [], _∷_, _++_, append-nil, append-assoc}
-use mathlib.Core.Bool.{false, true≢false}
-use lib.Dec.{eqb}
+use mathlib.Core.Bool.{true, false}
+use lib.Dec.{eqb, leb}
 use lib.ListN.{length, take, drop, length-drop, drop-of-length-le}
 use lib.Seq.{take-all, drop-drop}
+use borrow.Author.Tests.{leb-true}
 use mir.Syntax.{w64}
 use mir.Val.{Fits}
-use borrow.Author.Tests.{eq-eqb}
 use Rattle.refusals.specs.Tests.{first}
 use Rattle.refusals.proofs.First.{First, answers}
 use Rattle.text.specs.Pieces.{cut, lines}
@@ -30,14 +30,12 @@ use Rattle.road_text.specs.declared.progress.Next.the-variants.{On, Stop
 use Rattle.road_text.specs.Steps.{start, after, endTests}
 use Rattle.road_text.specs.Reading.{Reading, refused, accepted, unless, follow, arcsOf, arcsIn}
 use Rattle.road_text.specs.inner.Kept.{Ready, Kept, Passed, Stepped, Ended, Filled, Followed}
+use Rattle.road_text.proofs.Turns.{not-zero}
 
 -- tests that gave a number, and tests that gave none
 pub unless-some : (k : ℕ) (r : Reading) → k ≢ 0 → unless k r ≡ refused k
 unless-some zero r h = absurd (h refl)
 unless-some (suc k) r h = refl
-
-not-zero : {k : ℕ} → eqb k 0 ≡ false → k ≢ 0
-not-zero {k} some z = true≢false (sym (eq-eqb k 0 z) ∙ some)
 
 -- the end of the file
 module _ {s : Progress} where
@@ -114,8 +112,8 @@ module _ {file table₀ table : List ℕ} {s : Progress} {from : ℕ} (r : Reach
     pub end-fits : length file < 2 ^ 63 → Fits w64 (from + said .end)
     end-fits k = omega (arith, within)
 
-    pub next-fits : length file < 2 ^ 63 → Fits w64 (from + said .end + 1)
-    next-fits k = omega (arith, within)
+    pub next-fits : (step : ℕ) → leb step 9 ≡ true → length file < 2 ^ 63 → Fits w64 (from + said .end + step)
+    next-fits step few k = omega (arith, within, leb-true step 9 few)
 
     abbrev line : List ℕ
     line = take (said .end) rest

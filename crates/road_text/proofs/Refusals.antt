@@ -1,11 +1,11 @@
 -- K7's refusals in the paper's own conditions: each table of tests decides its conditions, and so does the whole reading.
 use Prim.Native.Nat.{ℕ, zero, suc}
-use mathlib.Core.Path.{_≡_, refl, ap}
+use mathlib.Core.Path.{_≡_, refl}
 use mathlib.Core.Logic.{_⊎_, inl, inr}
 use mathlib.Core.List.{List, [], _∷_}
 use mathlib.Core.Bool.{Bool, true, false, cond, _||_}
 use Rattle.refusals.specs.Tests.{first, outside}
-use Rattle.refusals.specs.Conditions.{Conditions, Returns, Exactly, Outside}
+use Rattle.refusals.specs.Conditions.{Returns, Exactly, Outside}
 use Rattle.refusals.proofs.Conditions.{Decides, applies, passes, row, none, either, decides-differ, decides-equal, decides-outside}
 use Rattle.text.specs.Pieces.{lines}
 use Rattle.road_form.specs.declared.forms.Arc.{Arc as ArcSaid}
@@ -14,7 +14,7 @@ use Rattle.road_form.specs.declared.forms.Line.the-variants.{Comment, Problem, 
 use Rattle.road_form.specs.Forms.{formOf}
 use Rattle.road_text.specs.declared.progress.Progress.{Progress}
 use Rattle.road_text.specs.Steps.{start, lineTests, after, endTests}
-use Rattle.road_text.specs.Reading.{Reading, refused, accepted, unless, follow, bufferTests, readingOf}
+use Rattle.road_text.specs.Reading.{Reading, accepted, unless, follow, bufferTests, readingOf}
 use Rattle.road_text.specs.claims.Refusals.{
   bufferConditions,
   FormFault,

@@ -1,13 +1,13 @@
 -- What a line leads to, form by form.
-use Prim.Native.Nat.{ℕ, _+_, _*_, _<_, _≤_}
-use native.Mathlib.Nat.{mul-le-mul}
+use Prim.Native.Nat.{ℕ, _+_, _<_, _≤_}
 use native.Mathlib.Omega.{arith}
-use mathlib.Core.Path.{_≡_, refl, sym, ap, subst, _∙_}
+use mathlib.Core.Path.{_≡_, refl, sym, subst, _∙_}
 use mathlib.Core.Logic.{_≢_}
-use mathlib.Core.List.{List, [], _∷_, append-nil}
+use mathlib.Core.List.{List, append-nil}
 use mathlib.Core.Bool.{true, false, true≢false}
 use lib.Dec.{eqb}
 use borrow.Author.Tests.{eq-eqb, ne-eqb}
+use Rattle.memory.proofs.Geometry.{square-fits}
 use Rattle.refusals.proofs.First.{First, hit, skip, clear, answers, same, within}
 use Rattle.road_form.specs.declared.forms.Arc.{Arc as ArcSaid}
 use Rattle.road_form.specs.declared.forms.Line.{Line}
@@ -19,11 +19,14 @@ use Rattle.road_text.specs.declared.progress.Next.the-variants.{On, Stop
 use Rattle.road_text.specs.Steps.{lineTests}
 use Rattle.road_text.specs.inner.Kept.{Ready, Passed, Stepped}
 
+pub not-zero : {k : ℕ} → eqb k 0 ≡ false → k ≢ 0
+not-zero {k} some z = true≢false (sym (eq-eqb k 0 z) ∙ some)
+
 module _ {s : Progress} {f : Line} {old new : List ℕ} where
   pub stopped : {k : ℕ} → First 0 (lineTests s f) k → eqb k 0 ≡ false → Stepped s f old (Stop k) new
   stopped {k} found some = record {
     goes = λ t e. let z : _≡_ {A = ℕ} 0 1 = cc in absurd (omega arith);
-    stops = λ j e. let q : k ≡ j = cc in rw (← q) ((λ z. true≢false (sym (eq-eqb k 0 z) ∙ some)), answers found);
+    stops = λ j e. let q : k ≡ j = cc in rw (← q) (not-zero some, answers found);
   }
 
   went : {t : Progress} → Passed s f old t new → Stepped s f old (On t) new
@@ -39,13 +42,10 @@ no-points {n} h = eq-eqb n 0 (omega arith)
 pub some-points : {n : ℕ} → 1 ≤ n → eqb n 0 ≡ false
 some-points {n} h = ne-eqb n 0 (λ e. omega arith)
 
-square-room : (n : ℕ) → n ≤ 128 → n * n ≤ 16384
-square-room n h = mul-le-mul h h
-
 -- the `p` line
 module _ {s : Progress} {old : List ℕ} (r : Ready s old) {points : ℕ} where
   pub begin-room : points ≤ 128 → Room points old
-  begin-room h = record { few = h; room = omega (arith, square-room points h, r .room) }
+  begin-room h = record { few = h; room = omega (arith, square-fits h, r .room) }
 
   pub problem-passed : {arcs : ℕ} {new : List ℕ} → s .points ≡ 0 → 1 ≤ points → points ≤ 128 → Begun points old new
       → Stepped s (Problem points arcs) old (On (record { points = points; arcs = arcs; count = 0 })) new
@@ -64,7 +64,7 @@ module _ {s : Progress} {old : List ℕ} (r : Ready s old) {points : ℕ} where
 module _ {s : Progress} {old : List ℕ} (r : Ready s old) where
   pub joinable : {a : ArcSaid} → 1 ≤ a .from → a .from ≤ s .points → 1 ≤ a .to → a .to ≤ s .points → Joinable (s .points) a old
   joinable h i j k = record {
-    room = record { few = r .few; room = omega (arith, square-room (s .points) (r .few), r .room) };
+    room = record { few = r .few; room = omega (arith, square-fits (r .few), r .room) };
     within = record { from-least = h; from-most = i; to-least = j; to-most = k };
   }
 

@@ -1,6 +1,5 @@
 -- An accepted file: its `p` line, its arcs, and the words of its table.
 use Prim.Native.Nat.{ℕ, zero, suc, _+_, _*_, _-_, _≤_}
-use native.Mathlib.Nat.{mul-le-mul}
 use native.Mathlib.Omega.{arith}
 use mathlib.Core.Path.{_≡_, refl, sym, ap, ap₂, _∙_}
 use mathlib.Core.Bool.{false, true≢false}
@@ -8,6 +7,7 @@ use mathlib.Core.List.{List, [], _∷_}
 use lib.Dec.{eqb}
 use borrow.Author.Tests.{eq-eqb, ne-eqb}
 use Rattle.memory.specs.Lists.{listOf}
+use Rattle.memory.proofs.Geometry.{square-fits}
 use Rattle.memory.proofs.ListOf.{length-listOf, getD-listOf}
 use Rattle.refusals.specs.Tests.{first, outside}
 use Rattle.refusals.proofs.First.{none-applied, inside, equal, within}
@@ -137,7 +137,7 @@ module _ (n : ℕ) (arcs : List ArcSaid) (few : n ≤ 128) where
   all = listOf 16384 (wordOf n arcs)
 
   square : n * n ≤ 16384
-  square = mul-le-mul few few
+  square = square-fits few
 
   word : (i j : ℕ) → InRange n i → InRange n j → wordAt n all i j ≡ entry arcs i j
   unfolding all

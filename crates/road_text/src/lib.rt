@@ -19,7 +19,7 @@ use road_form::read_line;
 use road_table::clear;
 use steps::advance;
 
-// The words of a buffer: 128 points to a row.
+// Room for the largest table: 128 rows of 128 words.
 const TABLE_WORDS: usize = 16384;
 
 fn beginning() -> Progress

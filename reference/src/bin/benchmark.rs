@@ -83,7 +83,11 @@ fn main() {
             all_ways(&mut random, algebra, size);
         }
     }
-    for (what, file) in road_files(&mut random) {
+    roads(&mut random);
+}
+
+fn roads(random: &mut Random) {
+    for (what, file) in road_files(random) {
         let times = road_times(&file);
         row(what, MAX_SIZE, Algebra::Distance, &times, "ns a byte");
     }

@@ -79,5 +79,5 @@ pub const FORMS: &[Example] = &[
         b"a 2 1 1\np sp 2 1",
     ),
     ("21: an empty file", b"", b"\n"),
-    ("21: comments alone", b"c\nc", b""),
+    ("21: comments alone", b"c\nc", b"p sp 1 1"),
 ];

@@ -70,6 +70,7 @@ faults! {
     TabIsSpace,
     CrIsDropped,
     BlankAllowed,
+    LfIsSpace,
     SpacesAllowed,
     LastLfNeeded,
     BlankAfterLastLf,

@@ -27,7 +27,26 @@ pub fn split(file: &[u8], fault: Option<Fault>) -> Option<Vec<Vec<u8>>> {
     if (has_last_lf && !is(Fault::BlankAfterLastLf)) || is(Fault::LastLineLost) {
         lines.pop();
     }
+    if is(Fault::LfIsSpace) {
+        lines = arcs_run_on(lines);
+    }
     Some(lines)
+}
+
+/// An arc with parts missing goes on in the next line.
+fn arcs_run_on(lines: Vec<Vec<u8>>) -> Vec<Vec<u8>> {
+    let is_short = |line: &Vec<u8>| {
+        let parts = line.split(|&byte| byte == b' ');
+        line.starts_with(b"a") && parts.filter(|part| !part.is_empty()).count() < 4
+    };
+    let mut joined: Vec<Vec<u8>> = Vec::new();
+    for line in lines {
+        match joined.last_mut() {
+            Some(last) if is_short(last) => last.extend([b" ", line.as_slice()].concat()),
+            _ => joined.push(line),
+        }
+    }
+    joined
 }
 
 /// Nothing where the line has no known form.

@@ -36,6 +36,7 @@ pub record Answers : Type 0 where
   pub eleven-digits : reading (ascii "p sp 00000000128 0") ≡ refused 21
   pub sign : reading (ascii "p sp +1 0") ≡ refused 21
   pub glued : reading (ascii "p sp 2 1\na1 2 3") ≡ refused 21
+  pub over-two-lines : reading (ascii "p sp 2 1\na 1 2\n3\n") ≡ refused 21
   pub part-short : reading (ascii "p sp 1") ≡ refused 21
   pub part-more : reading (ascii "p sp 1 0 0") ≡ refused 21
   pub other-problem : reading (ascii "p max 1 0") ≡ refused 21

@@ -1,5 +1,4 @@
 -- `road_text::problem_step` meets its contract: the first test that applies stops, and past them the table is laid with no arc.
-use mathlib.Core.Path.{refl}
 use borrow.Author.Needs.{needs}
 use Rattle.refusals.proofs.First.{tests}
 use Rattle.road_text.proofs.Turns.{stopped, begin-room, problem-passed}
