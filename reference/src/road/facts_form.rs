@@ -52,7 +52,7 @@ pub const FORMS: &[Fact] = &[
     fact("21: another word for sp", 1_000, |sight| {
         line(sight, |line| is(line, "p", 4) && parts(line)[1] != b"sp")
     }),
-    fact("21: SP", 40, |sight| {
+    fact("21: SP", 25, |sight| {
         line(sight, |line| is(line, "p", 4) && parts(line)[1] == b"SP")
     }),
     fact("21: P for p", 15, |sight| {
