@@ -1,4 +1,4 @@
--- K7: "Of several arcs for a pair the shortest stands": what a word of the table says of the arcs, with no minimum in it.
+-- K7: "Of several arcs for a pair the shortest stands": what a word of the table says of the arcs, with no minimum over them in it.
 use Prim.Native.Nat.{ℕ, _≤_}
 use mathlib.Core.Path.{_≡_}
 use mathlib.Core.Logic.{_⊎_, _≢_}

@@ -1,4 +1,4 @@
--- K7: what an accepted file holds, and what the table after it says of its `a` lines, with no walk and no minimum in it.
+-- K7: what an accepted file holds, and what the table after it says of its `a` lines, with no minimum over the arcs of a pair in it.
 use Prim.Native.Nat.{ℕ, suc, _+_, _*_, _-_, _<_, _≤_}
 use mathlib.Core.Path.{_≡_}
 use mathlib.Core.Logic.{_≢_}
