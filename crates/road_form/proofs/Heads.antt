@@ -12,7 +12,7 @@ use borrow.Author.Tests.{eq-eqb, ne-eqb}
 use Rattle.text.specs.Pieces.{parts}
 use Rattle.text.specs.inner.Scan.{partsFrom, Unspaced, Until}
 use Rattle.text.proofs.Cuts.{found-here, parts-some}
-use Rattle.text.proofs.Runs.{later, parts-none, parts-alone, parts-two}
+use Rattle.text.proofs.Runs.{first, later, parts-none, parts-alone, parts-two}
 use Rattle.text.proofs.Walks.{spaces-none, spaces-found, passed-none, passed-one, passed-found}
 use Rattle.road_form.specs.declared.forms.Line.{Line}
 use Rattle.road_form.specs.declared.forms.Line.the-variants.{Comment, Unknown}
@@ -71,7 +71,12 @@ long-head [] h other k e = absurd (omega arith)
 long-head (b ∷ []) h other k e = absurd (omega arith)
 long-head (b ∷ c ∷ line) h other k e =
     unknown (b ∷ c ∷ line) h other
-    (λ q. ap formOfParts (parts-two b c line (ne-eqb b (code " ") q) (ne-eqb c (code " ") e)) ∙ rw (and-false (eqb b (code "p"))) (ap (λ (x : Bool). cond x (arcForm (later line)) Unknown) (and-false (eqb b (code "a")))))
+    (λ q.
+    let named : formOfParts (parts (b ∷ c ∷ line)) ≡ formOfParts ((b ∷ c ∷ first line) ∷ later line)
+    = ap formOfParts (parts-two b c line (ne-eqb b (code " ") q) (ne-eqb c (code " ") e)) in
+    let no-arc : cond (eqb b (code "a") && false) (arcForm (later line)) Unknown ≡ Unknown
+    = ap (λ (x : Bool). cond x (arcForm (later line)) Unknown) (and-false (eqb b (code "a"))) in
+    named ∙ rw (and-false (eqb b (code "p"))) no-arc)
 
 -- A line whose first part is one byte.
 module _ (line : List ℕ) (two : 2 ≤ length line) (spaced : getD line 1 0 ≡ code " ") where
