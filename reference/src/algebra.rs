@@ -11,6 +11,11 @@ impl Algebra {
     /// In the order of their numbers.
     pub const ALL: [Algebra; 3] = [Algebra::Reach, Algebra::Distance, Algebra::Steepest];
 
+    /// Nothing where test 1 applies.
+    pub fn numbered(number: u16) -> Option<Algebra> {
+        Algebra::ALL.get(usize::from(number)).copied()
+    }
+
     pub fn number(self) -> u32 {
         match self {
             Algebra::Reach => 0,

@@ -9,14 +9,15 @@ use reference::systolic::memory::{OwnJobs, RunCall, StartCall};
 use reference::systolic::moments::{allowance, Pace};
 use reference::systolic::rows::{Lent, RowArray};
 use reference::systolic::{part_starts, run};
-use reference::texts::lists::{list, Sizes};
+use reference::texts::lists::{drawn_list, Sizes};
 
 const NONE: u16 = 65535;
 
-fn jobs_of(algebra: Algebra, order: u16, sizes: &[u16], weights: &[u16]) -> JobList {
+/// A job for each algebra.
+fn jobs_of(order: u16, algebras: &[Algebra], sizes: &[u16], weights: &[u16]) -> JobList {
     JobList {
         order,
-        algebra,
+        algebras: algebras.to_vec(),
         sizes: sizes.to_vec(),
         weights: weights.to_vec(),
     }
@@ -26,7 +27,6 @@ fn jobs_of(algebra: Algebra, order: u16, sizes: &[u16], weights: &[u16]) -> JobL
 fn started(list: &JobList) -> RunCall {
     let order = usize::from(list.order);
     let mut start = StartCall {
-        algebra: list.algebra.number(),
         order,
         jobs: OwnJobs::of(list),
         state: vec![9; 4 + 3 * order * order],
@@ -53,14 +53,14 @@ fn advance(call: &mut RunCall, allowance: u16) -> u16 {
 
 #[test]
 fn start_writes_header_and_zeros() {
-    let call = started(&jobs_of(Steepest, 2, &[1, 2, 1], &[5; 6]));
-    assert_eq!(call.state, [&[2, 2, 3, 0][..], &[0; 12]].concat());
+    let call = started(&jobs_of(2, &[Steepest; 3], &[1, 2, 1], &[5; 6]));
+    assert_eq!(call.state, [&[2, 0, 3, 0][..], &[0; 12]].concat());
 }
 
 /// B8 and the end of B11.
 #[test]
 fn one_point() {
-    let mut call = started(&jobs_of(Reach, 1, &[1], &[0]));
+    let mut call = started(&jobs_of(1, &[Reach], &[1], &[0]));
     assert_eq!(advance(&mut call, 0), 0);
     assert_eq!(call.state, [1, 0, 1, 0, 0, 0, 0]);
     assert_eq!(advance(&mut call, 3), 3);
@@ -78,7 +78,7 @@ fn one_point() {
 #[test]
 fn jobs_of_two_sizes() {
     let weights = [0, 4, 9, NONE, 0, 3, 1, NONE, 0, 9, 4, NONE, 9];
-    let mut call = started(&jobs_of(Distance, 3, &[3, 2], &weights));
+    let mut call = started(&jobs_of(3, &[Distance; 2], &[3, 2], &weights));
     assert_eq!(advance(&mut call, 23), 23);
     assert_eq!(call.results, [0, 4, 7, 4, 0, 3, 1, 5, 0, 7, 7, 7, 7]);
     for part in [[0, 7, 7, 7], [0, 4, NONE, 7], [0, 4, NONE, 0]] {
@@ -100,7 +100,7 @@ fn planes_are_taken_as_numbers() {
         (Steepest, [NONE, 65534, 600], 65534),
         (Steepest, [9, 4, 5], 5),
     ] {
-        let mut call = started(&jobs_of(algebra, 1, &[1], &[1]));
+        let mut call = started(&jobs_of(1, &[algebra], &[1], &[1]));
         call.state[3..].copy_from_slice(&[1, c, a, b]);
         assert_eq!(advance(&mut call, 1), 1);
         assert_eq!(call.state[3..], [2, wanted, wanted, wanted], "{algebra:?}");
@@ -113,7 +113,7 @@ fn planes_are_taken_as_numbers() {
 /// On tick 3, in the last pass, c stays and goes into a alone.
 #[test]
 fn the_last_pass_keeps_b() {
-    let mut call = started(&jobs_of(Reach, 1, &[1], &[1]));
+    let mut call = started(&jobs_of(1, &[Reach], &[1], &[1]));
     call.state[3..].copy_from_slice(&[3, 7, 9, 4]);
     assert_eq!(advance(&mut call, 1), 1);
     assert_eq!(call.state[3..], [4, 7, 7, 4]);
@@ -123,7 +123,7 @@ fn the_last_pass_keeps_b() {
 /// Three ticks of order 2 with one point, so that the table fed is all padding: the own word on the diagonal, else none.
 #[test]
 fn registers_of_padding() {
-    let mut call = started(&jobs_of(Distance, 2, &[1], &[9]));
+    let mut call = started(&jobs_of(2, &[Distance], &[1], &[9]));
     for planes in [
         [0, 0, 0, 0, 0, 0, 0, 0, 0, 0, 0, 0],
         [0, NONE, NONE, 0, NONE, 0, NONE, 0, NONE, NONE, 0, 0],
@@ -135,20 +135,55 @@ fn registers_of_padding() {
     assert_eq!(call.results, [7]);
 }
 
+/// In each algebra, then in reach once more: on the first tick of a job its own word comes in at both edges, and the
+/// product stands in the place of what the job before left.
+#[test]
+fn a_job_begins_in_its_own_algebra() {
+    let algebras = [Reach, Distance, Steepest, Reach];
+    let mut call = started(&jobs_of(1, &algebras, &[1; 4], &[0, 9, 9, 1]));
+    for (job, own) in [(0, 1), (1, 0), (2, 0), (3, 1)] {
+        assert_eq!(advance(&mut call, 1), 1);
+        assert_eq!(call.state[3..], [4 * job + 1, own, own, own]);
+        assert_eq!(advance(&mut call, 3), 3);
+    }
+    assert_eq!(call.results, [1, 0, 0, 1]);
+}
+
+/// c on the first four ticks of a job in distance that follows one in reach, both of one point in an array of order 2:
+/// for two of them the last cell is on the job before still.
+#[test]
+fn registers_at_a_seam() {
+    let mut call = started(&jobs_of(2, &[Reach, Distance], &[1, 1], &[0, 9]));
+    assert_eq!(advance(&mut call, 8), 8);
+    let reach = [1, 0, 0, 1];
+    assert_eq!(call.state[4..8], reach);
+    for c in [
+        [0, 0, 0, 1],
+        [0, NONE, NONE, 1],
+        [0, NONE, NONE, NONE],
+        [0, NONE, NONE, 0],
+    ] {
+        assert_eq!(advance(&mut call, 1), 1);
+        assert_eq!(call.state[4..8], c);
+    }
+    assert_eq!(call.results, [1, 7]);
+}
+
 /// Runs of any length leave the words of one run, and after each of them the results are the row-wise array's.
 #[test]
 fn pieces_make_the_whole() {
     let mut random = Random::new(12);
     for order in 1..=32 {
-        for algebra in Algebra::ALL {
-            let (jobs, sizes) = (random.between(1, 4), random.pick(&Sizes::ALL));
-            let list = list(&mut random, algebra, order, jobs, sizes, &Kind::ALL);
+        for jobs in 1..=4 {
+            let sizes = random.pick(&Sizes::ALL);
+            let list = drawn_list(&mut random, order, jobs, sizes, &Kind::ALL);
             let lent = Lent {
+                algebras: &list.algebras,
                 sizes: &list.sizes,
                 starts: &part_starts(&list.sizes),
                 weights: &list.weights,
             };
-            let mut rows = RowArray::start(order, algebra, jobs);
+            let mut rows = RowArray::start(order, jobs);
             let mut row_results = vec![7; list.weights.len()];
             let mut call = started(&list);
             while call.header().ticks_left() > 0 {

@@ -1,7 +1,7 @@
 //! A few calls of the proved array through C, where the build found its archive; compare_array makes many.
 #![cfg(array_archive)]
 
-use reference::algebra::Algebra;
+use reference::algebra::Algebra::{Distance, Reach, Steepest};
 use reference::elimination::tables::Kind;
 use reference::random::Random;
 use reference::systolic::checks::eliminations;
@@ -16,8 +16,14 @@ use reference::texts::lists::{list, Sizes};
 fn the_calls_agree() {
     let mut random = Random::new(16);
     for order in [1, 2, 3, 8, 32] {
-        for algebra in Algebra::ALL {
-            let list = list(&mut random, algebra, order, 3, Sizes::Any, &Kind::ALL);
+        for algebras in [
+            [Reach; 3],
+            [Distance; 3],
+            [Steepest; 3],
+            [Reach, Distance, Steepest],
+            [Steepest, Reach, Distance],
+        ] {
+            let list = list(&mut random, &algebras, order, Sizes::Any, &Kind::ALL);
             let mut start = right_start(&mut random, &list);
             assert_eq!(start_both_ways(&mut random, &mut start), Ok(0));
             let mut call = right_run(&mut random, &list);
@@ -35,14 +41,8 @@ fn the_calls_agree() {
 fn the_refusals_agree() {
     let mut random = Random::new(17);
     for order in [1, 2, 31, 32] {
-        let list = list(
-            &mut random,
-            Algebra::Reach,
-            order,
-            3,
-            Sizes::Any,
-            &Kind::ALL,
-        );
+        let algebras = [Distance, Reach, Steepest];
+        let list = list(&mut random, &algebras, order, Sizes::Any, &Kind::ALL);
         for damage in StartDamage::ALL {
             let mut call = right_start(&mut random, &list);
             damage_start(&mut random, &mut call, &[damage]);

@@ -1,10 +1,10 @@
-//! The parts of the comparison of pairs: the pairs themselves, the search over links, the two lists, and the judge,
+//! The parts of the comparison of pairs: the pairs themselves, the search over links, the lists, and the judge,
 //! which has to find each wrong word by itself.
 
-use reference::algebra::Algebra::{self, Distance, Reach, Steepest};
+use reference::algebra::Algebra::{Distance, Reach, Steepest};
 use reference::elimination::eliminate;
 use reference::pairs::judge::{judge, Answer};
-use reference::pairs::lists::TwoLists;
+use reference::pairs::lists::{OneList, TwoLists};
 use reference::pairs::runs::leaving_tick;
 use reference::pairs::search::reached;
 use reference::pairs::tables::Pair;
@@ -111,10 +111,31 @@ fn both_lists_have_the_tables() {
             let jobs = of_side.list.jobs();
             assert_eq!(of_side.places.len(), lists.pairs.len());
             for (pair, &place) in lists.pairs.iter().zip(&of_side.places) {
-                assert_eq!(jobs[place], (pair.size, &pair.tables[side][..]));
+                assert_eq!(jobs[place], pair.job(side));
             }
         }
     }
+}
+
+/// At two places of their own, either of them first.
+#[test]
+fn one_list_has_both_tables() {
+    let mut random = Random::new(39);
+    let mut reach_first = [false; 2];
+    for _ in 0..500 {
+        let one = OneList::any(&mut random, Distance);
+        let jobs = one.side.list.jobs();
+        let mut places = one.side.places.clone();
+        places.sort();
+        places.dedup();
+        assert_eq!(places.len(), 2 * one.pairs.len());
+        for (at, pair) in one.pairs.iter().enumerate() {
+            let [reach, other] = one.places(at);
+            assert_eq!([jobs[reach], jobs[other]], [pair.job(0), pair.job(1)]);
+            reach_first[usize::from(reach < other)] = true;
+        }
+    }
+    assert_eq!(reach_first, [true; 2]);
 }
 
 /// The formula here is that of the model's ticks.
@@ -122,7 +143,7 @@ fn both_lists_have_the_tables() {
 fn words_leave_on_their_ticks() {
     let mut random = Random::new(34);
     for _ in 0..100 {
-        let list = small_list(&mut random, Algebra::Steepest);
+        let list = small_list(&mut random);
         for leaving in run(&list).leavings {
             let (order, job) = (list.order.into(), leaving.job);
             let tick = leaving_tick(order, job, leaving.row, leaving.column);

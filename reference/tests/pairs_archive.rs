@@ -15,8 +15,9 @@ fn the_calls_agree() {
             for size in [1, 2, 3, 8, 128] {
                 assert_eq!(comparison.by_elimination(algebra, size, kind), Ok(()));
             }
-            assert_eq!(comparison.by_arrays(algebra), Ok(()));
-            assert_eq!(comparison.mixed(algebra), Ok(()));
+            assert_eq!(comparison.by_one_array(algebra), Ok(()));
+            assert_eq!(comparison.by_two_arrays(algebra), Ok(()));
+            assert_eq!(comparison.each_way(algebra), Ok(()));
         }
     }
 }

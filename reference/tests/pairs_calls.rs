@@ -7,7 +7,7 @@ use reference::algebra::Algebra::{self, Distance, Reach, Steepest};
 use reference::elimination::eliminate;
 use reference::pairs::calls::Model;
 use reference::pairs::tally::Closing;
-use wrong_calls::{found, Stub, RIGHT};
+use wrong_calls::{found, Stub, BY_ARRAY, RIGHT};
 
 const NONE: u16 = 65535;
 
@@ -145,5 +145,25 @@ fn tables_that_are_not_closed_are_found() {
     }
     for algebra in [Distance, Steepest] {
         assert_found(closing(copy), algebra, "links lead there");
+    }
+}
+
+/// The first job's algebra for all, or that of the job before.
+#[test]
+fn the_algebra_of_another_job_is_found() {
+    let wrong: [fn(&[u16], usize) -> u16; 2] = [
+        |algebras, _| algebras[0],
+        |algebras, q| algebras[q.saturating_sub(1)],
+    ];
+    for other in wrong {
+        let stub = Stub {
+            algebra: other,
+            ..RIGHT
+        };
+        for algebra in [Distance, Steepest] {
+            for closing in BY_ARRAY {
+                assert!(found(stub, closing, algebra).is_some());
+            }
+        }
     }
 }

@@ -4,15 +4,15 @@
 use reference::algebra::Algebra::{self, Distance};
 use reference::pairs::calls::{Calls, Model};
 use reference::pairs::comparison::Comparison;
-use reference::pairs::lists::{Side, TwoLists};
+use reference::pairs::lists::{OneList, Side, TwoLists};
 use reference::pairs::runs::{leaving_tick, run_list, Ran};
-use reference::pairs::tally::{Closing, Tally};
+use reference::pairs::tally::{Closing, Counts, Tally};
 use reference::random::Random;
 use reference::systolic::memory::{RunCall, StartCall};
 use std::cell::RefCell;
 use std::collections::BTreeMap;
 
-fn met_of(tally: &Tally, what: &str) -> [usize; 3] {
+fn met_of(tally: &Tally, what: &str) -> Counts {
     let row = tally.rows().into_iter().find(|row| row.what == what);
     row.expect("a row of this name").met
 }
@@ -60,8 +60,10 @@ impl Recount {
             ran.ticks > 0 && leaves(ran.ticks - 1),
         );
         self.add("with one that leaves next", leaves(ran.ticks));
-        self.add("lists with several pairs", side.places.len() > 1);
         self.add("lists of order 32", ran.order == 32);
+        let first = side.list.algebras[0];
+        let mut others = side.list.algebras.iter();
+        self.add("mixed lists", others.any(|&other| other != first));
     }
 }
 
@@ -73,16 +75,40 @@ fn lists_are_counted() {
         let lists = TwoLists::any(&mut random, Distance);
         let mut run = |side: &Side| run_list(&mut random, &Model, side).expect("right calls");
         let rans = lists.sides.each_ref().map(&mut run);
-        tally.count_arrays(&lists, &rans);
+        tally.count_two_arrays(&lists, &rans);
         recount.arrays(&lists, &rans);
         for (ran, side) in rans.iter().zip(&lists.sides) {
-            tally.count_list(Closing::Arrays, ran, &side.places);
+            tally.count_list(Closing::TwoArrays, ran, side);
             recount.list(ran, side);
+            recount.add("lists with several pairs", lists.pairs.len() > 1);
         }
     }
     for (what, wanted) in recount.0 {
-        assert_eq!(met_of(&tally, what), [0, wanted, 0], "{what}");
-        assert!(wanted > 20, "{what}: {wanted}");
+        assert_eq!(met_of(&tally, what), [0, 0, wanted, 0], "{what}");
+        assert!(wanted > 0, "{what}");
+    }
+}
+
+#[test]
+fn lists_with_both_tables_are_counted() {
+    let mut random = Random::new(45);
+    let (mut tally, mut recount) = (Tally::default(), Recount::default());
+    for _ in 0..400 {
+        let one = OneList::any(&mut random, Distance);
+        let ran = run_list(&mut random, &Model, &one.side).expect("right calls");
+        tally.count_one_array(&one);
+        tally.count_list(Closing::OneArray, &ran, &one.side);
+        recount.list(&ran, &one.side);
+        recount.add("lists with several pairs", one.pairs.len() > 1);
+        for places in one.side.places.chunks_exact(2) {
+            let apart = places[0].max(places[1]) - places[0].min(places[1]);
+            recount.add("a pair nose to tail in one list", apart == 1);
+            recount.add("a pair with other jobs between", apart > 1);
+        }
+    }
+    for (what, wanted) in recount.0 {
+        assert_eq!(met_of(&tally, what), [0, wanted, 0, 0], "{what}");
+        assert!(wanted > 0, "{what}");
     }
 }
 
@@ -149,7 +175,7 @@ fn calls_are_counted() {
     let noted = Noted::default();
     let mut comparison = Comparison::new(&noted, Random::new(43));
     for _ in 0..200 {
-        assert_eq!(comparison.by_arrays(Distance), Ok(()));
+        assert_eq!(comparison.by_two_arrays(Distance), Ok(()));
     }
     let lists = noted.0.borrow();
     let sum = |count: fn(&NotedList) -> usize| lists.iter().map(count).sum::<usize>();
@@ -166,7 +192,7 @@ fn calls_are_counted() {
             sum(NotedList::refused_between),
         ),
     ] {
-        assert_eq!(met_of(&comparison.tally, what), [0, wanted, 0], "{what}");
-        assert!(wanted > 30, "{what}: {wanted}");
+        assert_eq!(met_of(&comparison.tally, what), [0, 0, wanted, 0], "{what}");
+        assert!(wanted > 0, "{what}");
     }
 }

@@ -6,13 +6,13 @@ mod wrong_calls;
 use reference::algebra::Algebra::{Distance, Steepest};
 use reference::pairs::tally::Closing;
 use reference::systolic::memory::RunCall;
-use wrong_calls::{found, Stub, RIGHT};
+use wrong_calls::{found, Stub, BY_ARRAY, RIGHT};
 
 /// A tick early or late.
 #[test]
 fn another_tick_is_found() {
     for algebra in [Distance, Steepest] {
-        for closing in [Closing::Arrays, Closing::Mixed] {
+        for closing in BY_ARRAY {
             let early = Stub { late: -1, ..RIGHT };
             let what = found(early, closing, algebra).expect("a difference");
             assert!(what.contains("before its tick"), "{what}");
@@ -36,7 +36,7 @@ fn wrong_ticks_are_found() {
     ];
     for (changes, fault) in [(made, "ticks made, wanted"), (tick, " after ")] {
         for accepted_run in changes {
-            for closing in [Closing::Arrays, Closing::Mixed] {
+            for closing in BY_ARRAY {
                 let stub = Stub {
                     accepted_run,
                     ..RIGHT
@@ -69,7 +69,7 @@ fn wrong_numbers_are_found() {
         (accepted, "returned 0, wanted "),
         (exchanged, "returned 4, wanted 12"),
     ] {
-        for closing in [Closing::Arrays, Closing::Mixed] {
+        for closing in BY_ARRAY {
             let what = found(Stub { returned, ..RIGHT }, closing, Distance).expect("a difference");
             assert!(what.contains(fault), "{what}");
         }
@@ -94,7 +94,7 @@ fn refused_calls_that_write_are_found() {
         ..RIGHT
     };
     for stub in runs.into_iter().chain([start]) {
-        for closing in [Closing::Arrays, Closing::Mixed] {
+        for closing in BY_ARRAY {
             let what = found(stub, closing, Distance).expect("a difference");
             assert!(what.contains("refused, and "), "{what}");
         }

@@ -4,16 +4,16 @@ use reference::algebra::Algebra::{Distance, Reach, Steepest};
 use reference::elimination::eliminate;
 use reference::pairs::judge::Answer;
 use reference::pairs::tables::Pair;
-use reference::pairs::tally::{Closing, Row, Tally};
+use reference::pairs::tally::{Closing, Counts, Row, Tally};
 use reference::ways::tables::Kind;
 
 const NONE: u16 = 65535;
 
 /// The rows with anything met.
-fn met(tally: &Tally) -> Vec<(String, [usize; 3])> {
+fn met(tally: &Tally) -> Vec<(String, Counts)> {
     let rows = tally.rows().into_iter();
     rows.map(|row| (row.what, row.met))
-        .filter(|&(_, met)| met != [0; 3])
+        .filter(|&(_, met)| met != Counts::default())
         .collect()
 }
 
@@ -32,15 +32,16 @@ fn closed(pair: &Pair) -> [Answer; 2] {
 fn too_few_is_short() {
     assert!(Tally::default().rows().iter().all(Row::is_short));
     for (met, is_short) in [
-        ([3, 4, 5], false),
-        ([2, 9, 9], true),
-        ([9, 3, 9], true),
-        ([9, 9, 4], true),
+        ([3, 4, 5, 6], false),
+        ([2, 9, 9, 9], true),
+        ([9, 3, 9, 9], true),
+        ([9, 9, 4, 9], true),
+        ([9, 9, 9, 5], true),
     ] {
         let row = Row {
             what: String::new(),
             met,
-            fewest: [3, 4, 5],
+            fewest: [3, 4, 5, 6],
         };
         assert_eq!(row.is_short(), is_short);
     }
@@ -72,7 +73,7 @@ fn a_far_pair_is_counted() {
         answers[side].held[at] = Some(word);
     }
     let mut tally = Tally::default();
-    tally.count_pair(Closing::Arrays, &pair, &answers);
+    tally.count_pair(Closing::TwoArrays, &pair, &answers);
     let wanted = [
         ("pairs in distance", 1),
         ("pairs with a far entry", 1),
@@ -94,7 +95,7 @@ fn a_far_pair_is_counted() {
     ];
     assert_eq!(
         met(&tally),
-        wanted.map(|(what, met)| (what.to_string(), [0, met, 0]))
+        wanted.map(|(what, met)| (what.to_string(), [0, 0, met, 0]))
     );
 }
 
@@ -109,7 +110,7 @@ fn a_plain_pair_is_counted() {
             tables: [vec![1, 1, back, 0], vec![5, 3, word, NONE]],
         };
         let mut tally = Tally::default();
-        tally.count_pair(Closing::Mixed, &pair, &closed(&pair));
+        tally.count_pair(Closing::OneArray, &pair, &closed(&pair));
         let none = no_way.map(|met| ("with an entry of none", met));
         let none_past = no_way.map(|met| ("of these, none", met));
         let wanted = [
@@ -123,7 +124,7 @@ fn a_plain_pair_is_counted() {
         let wanted: Vec<_> = wanted
             .into_iter()
             .flatten()
-            .map(|(what, met)| (what.to_string(), [0, 0, met]))
+            .map(|(what, met)| (what.to_string(), [0, met, 0, 0]))
             .collect();
         assert_eq!(met(&tally), wanted);
     }
@@ -134,11 +135,11 @@ fn a_plain_pair_is_counted() {
 fn the_side_by_an_array_is_counted() {
     let mut tally = Tally::default();
     for side in [0, 1, 1] {
-        tally.count_mixed(side);
+        tally.count_each_way(side);
     }
     let wanted = [("reach by an array", 1), ("the other by an array", 2)];
     assert_eq!(
         met(&tally),
-        wanted.map(|(what, met)| (what.to_string(), [0, 0, met]))
+        wanted.map(|(what, met)| (what.to_string(), [0, 0, 0, met]))
     );
 }

@@ -20,5 +20,5 @@ fn each_sample_has_its_sheet() {
             met += 1;
         }
     }
-    assert_eq!(met, 7);
+    assert_eq!(met, 8);
 }

@@ -1,20 +1,15 @@
 -- Test 10, from what the branches of its code told: over a plain list, what reading the header answers.
 use Prim.Native.Nat.{ℕ, _≤_, _<_}
-use mathlib.Core.Path.{_≡_, refl, sym, ap, _∙_}
+use mathlib.Core.Path.{_≡_, refl}
 use mathlib.Core.List.{List, [], _∷_}
 use mathlib.Core.Bool.{Bool, true, false}
 use lib.Dec.{ltb}
 use borrow.Author.Tests.{lt-ltb, le-ltb}
 use Rattle.refusals.proofs.First.{same, differ, below, above, within}
-use Rattle.semiring.specs.Named.{namedOf}
-use Rattle.semiring.specs.declared.Algebra.{Algebra}
-use Rattle.semiring.specs.declared.Named.{Named}
-use Rattle.semiring.specs.declared.Named.the-variants.{Known, Unknown}
-use Rattle.systolic.specs.State.{algebraOf}
-use Rattle.systolic.specs.Run.{badTests, badState}
+use Rattle.systolic.specs.Run.{badTests}
 use Rattle.refusals.specs.Tests.{oneOf}
 use Rattle.array.specs.declared.head.HeaderRead.the-variants.{Fit, Unfit}
-use Rattle.array.specs.inner.Header.{headerOf, headerIn, Told}
+use Rattle.array.specs.inner.Header.{headerOf, Told}
 
 -- Several tests, of which one applies or none.
 pub data Tested : List Bool → Bool → Type 0 where
@@ -42,16 +37,8 @@ reaches x y made e h = rw (← e) (le-ltb made y h)
 
 pub ruleset header-tests = (applies, fails, none, same, differ, below, above, within, short, long, short-of, reaches)
 
-unfit-in : (d : Named) (state : List ℕ) → badState state ≡ true → Unfit ≡ headerIn d state
-unfit-in Unknown state e = refl
-unfit-in (Known a) state e = rw e
-
 pub unfit : (state : List ℕ) → Tested (badTests state) true → Told Unfit state
-unfit state t = record { is = unfit-in (namedOf (algebraOf state)) state (one-of t) }
+unfit state t = record { is = rw (one-of t) }
 
-pub unknown : (state : List ℕ) (number : ℕ) (d : Named) → number ≡ algebraOf state → d ≡ namedOf number → d ≡ Unknown → Told Unfit state
-unknown state number d wide read told = record { is = rw (ap namedOf (sym wide) ∙ sym read ∙ told) }
-
-pub fit : (state : List ℕ) (number : ℕ) (d : Named) (a : Algebra) → number ≡ algebraOf state → d ≡ namedOf number → d ≡ Known a
-    → Tested (badTests state) false → Told (Fit (headerOf state) a) state
-fit state number d a wide read told t = record { is = rw (ap namedOf (sym wide) ∙ sym read ∙ told, one-of t) }
+pub fit : (state : List ℕ) → Tested (badTests state) false → Told (Fit (headerOf state)) state
+fit state t = record { is = rw (one-of t) }

@@ -9,11 +9,10 @@ use mir.Syntax.{w64}
 use mir.Val.{Fits}
 use Rattle.memory.specs.Lists.{replaced}
 use Rattle.memory.proofs.Part.{part-length, replaced-seam}
-use Rattle.semiring.specs.declared.Algebra.{Algebra}
 use Rattle.job_list.specs.Jobs.{jobsOf}
 use Rattle.systolic.specs.Cell.{Planes}
 use Rattle.systolic.specs.Tick.{Array, ticks}
-use Rattle.systolic.specs.State.{stateWords, orderOf, algebraOf, countOf, tickOf, planesOf}
+use Rattle.systolic.specs.State.{stateWords, orderOf, countOf, tickOf, planesOf}
 use Rattle.turns.specs.Layout.{planeIn, planesIn}
 use Rattle.ticks.specs.Ready.{arrayOf, Ready}
 use Rattle.array.specs.declared.head.Header.{Header}
@@ -23,7 +22,7 @@ use Rattle.array.proofs.Rooms.{total-most}
 
 -- a header over four words and the rest
 headed-front : (h : Header) (four rest : List ℕ) → length four ≡ 4
-    → headed h (four ++ rest) ≡ h .order ∷ h .algebra ∷ h .count ∷ h .tick ∷ rest
+    → headed h (four ++ rest) ≡ h .order ∷ 0 ∷ h .count ∷ h .tick ∷ rest
 headed-front h [] rest e = absurd (omega arith)
 headed-front h (x ∷ []) rest e = absurd (omega arith)
 headed-front h (x ∷ y ∷ []) rest e = absurd (omega arith)
@@ -33,7 +32,7 @@ headed-front h (x ∷ y ∷ z ∷ w ∷ v ∷ four) rest e = absurd (omega arith
 
 -- The header once `made` ticks more are made.
 abbrev pub after : Header → ℕ → Header
-after h made = record { order = h .order; algebra = h .algebra; count = h .count; tick = h .tick + made }
+after h made = record { order = h .order; count = h .count; tick = h .tick + made }
 
 -- planes one after another are the whole memory
 planes-joined : (n : ℕ) (l : List ℕ) → length l ≡ 3 * (n * n) → planeIn n 0 l ++ (planeIn n 1 l ++ planeIn n 2 l) ≡ l
@@ -73,8 +72,8 @@ module _ (state : List ℕ) (long : 4 ≤ length state) where
       ∙ replaced-seam 4 (length state - 4) (take 4 state) (drop 4 state) [] new (length-take-le 4 state long) (length-drop 4 state)
       ∙ ap (λ (x : List ℕ). take 4 state ++ x) (append-nil new)
 
-module _ {algebra : Algebra} {h : Header} {made : ℕ} {sizes weights scratch state results : List ℕ}
-    (fit : Runnable algebra h made sizes weights scratch state results) where
+module _ {h : Header} {made : ℕ} {algebras sizes weights scratch state results : List ℕ}
+    (fit : Runnable h made algebras sizes weights scratch state results) where
   pub tick-fits : h .tick + made ≤ 2110
   tick-fits = omega (arith, total-most (h .order) (length sizes) (fit .list .ranged), fit .ticks-left)
 
@@ -91,7 +90,7 @@ module _ {algebra : Algebra} {h : Header} {made : ℕ} {sizes weights scratch st
   order-is : orderOf state ≡ h .order
   order-is = sym (ap (λ (k : Header). k .order) (fit .header))
 
-  pub ready : Ready (jobsOf algebra (h .order) sizes weights) (h .tick + made) scratch (lent state) results
+  pub ready : Ready (jobsOf algebras (h .order) sizes weights) (h .tick + made) scratch (lent state) results
   ready = record {
     list = fit .list;
     weights-fit = fit .weights-fit;
@@ -102,22 +101,22 @@ module _ {algebra : Algebra} {h : Header} {made : ℕ} {sizes weights scratch st
   }
 
   -- the ticks made of the planes as they are lent
-  array-made : {m : Array} → m ≡ ticks (jobsOf algebra (h .order) sizes weights) (h .tick) (h .tick + made - h .tick) (arrayOf (h .order) (lent state) results)
-      → m ≡ arrayMade algebra made sizes weights state results
+  array-made : {m : Array} → m ≡ ticks (jobsOf algebras (h .order) sizes weights) (h .tick) (h .tick + made - h .tick) (arrayOf (h .order) (lent state) results)
+      → m ≡ arrayMade made algebras sizes weights state results
   array-made e =
       let count : h .tick + made - h .tick ≡ made = omega arith in
       e
-      ∙ ap (λ (k : ℕ). ticks (jobsOf algebra (h .order) sizes weights) (h .tick) k (arrayOf (h .order) (lent state) results)) count
-      ∙ ap (λ (p : Planes). ticks (jobsOf algebra (h .order) sizes weights) (h .tick) made (record { planes = p; results = results }))
+      ∙ ap (λ (k : ℕ). ticks (jobsOf algebras (h .order) sizes weights) (h .tick) k (arrayOf (h .order) (lent state) results)) count
+      ∙ ap (λ (p : Planes). ticks (jobsOf algebras (h .order) sizes weights) (h .tick) made (record { planes = p; results = results }))
       (planes-lent state state-long (h .order) order-is)
-      ∙ ap (λ (k : Header). ticks (jobsOf algebra (k .order) sizes weights) (k .tick) made (record { planes = planesOf state; results = results })) (fit .header)
+      ∙ ap (λ (k : Header). ticks (jobsOf algebras (k .order) sizes weights) (k .tick) made (record { planes = planesOf state; results = results })) (fit .header)
 
   -- and the next header before them
   pub run-left : (planes : List ℕ) {results′ stored : List ℕ} {next : Header} → length planes ≡ length (lent state)
       → arrayOf (h .order) planes results′
-      ≡ ticks (jobsOf algebra (h .order) sizes weights) (h .tick) (h .tick + made - h .tick) (arrayOf (h .order) (lent state) results)
+      ≡ ticks (jobsOf algebras (h .order) sizes weights) (h .tick) (h .tick + made - h .tick) (arrayOf (h .order) (lent state) results)
       → next ≡ after h made → stored ≡ headed next (replaced 4 (length state - 4) planes state)
-      → RunLeft algebra made sizes weights state results stored results′
+      → RunLeft made algebras sizes weights state results stored results′
   run-left planes same ticked isNext isStored =
       let made-so = array-made ticked in
       record {
@@ -125,9 +124,9 @@ module _ {algebra : Algebra} {h : Header} {made : ℕ} {sizes weights scratch st
             isStored
             ∙ ap₂ headed isNext (put-back state state-long planes)
             ∙ headed-front (after h made) (take 4 state) planes (length-take-le 4 state state-long)
-            ∙ ap (λ (k : Header). k .order ∷ k .algebra ∷ k .count ∷ (k .tick + made) ∷ planes) (fit .header)
-            ∙ ap (λ (l : List ℕ). orderOf state ∷ algebraOf state ∷ countOf state ∷ (tickOf state + made) ∷ l)
+            ∙ ap (λ (k : Header). k .order ∷ 0 ∷ k .count ∷ (k .tick + made) ∷ planes) (fit .header)
+            ∙ ap (λ (l : List ℕ). orderOf state ∷ 0 ∷ countOf state ∷ (tickOf state + made) ∷ l)
             (sym (planes-joined (h .order) planes (same ∙ ready .planes-fit)))
-            ∙ ap (λ (m : Array). stateWords (orderOf state) (algebraOf state) (countOf state) (tickOf state + made) (m .planes)) made-so;
+            ∙ ap (λ (m : Array). stateWords (orderOf state) (countOf state) (tickOf state + made) (m .planes)) made-so;
         results-left = ap (λ (m : Array). m .results) made-so;
       }

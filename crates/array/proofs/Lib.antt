@@ -1,3 +1,4 @@
+pub mod Pairs
 pub mod Answers
 pub mod HeaderNeeds
 pub mod Rooms

@@ -3,15 +3,15 @@ use Prim.Native.Nat.{ℕ, zero, suc, _-_, _≤_, min}
 use native.Mathlib.Omega.{arith}
 use mathlib.Core.Path.{_≡_, refl, sym, ap, _∙_}
 use mathlib.Core.List.{List, [], _∷_}
-use mathlib.Core.Bool.{Bool, true, false, cond, true≢false}
+use mathlib.Core.Bool.{Bool, true, false, cond, not, true≢false}
 use lib.ListN.{length, replicate}
 use lib.Dec.{eqb}
 use borrow.Author.Tests.{eqb-true}
-use Rattle.semiring.specs.Named.{namedOf}
-use Rattle.semiring.specs.declared.Algebra.{Algebra}
+use Rattle.memory.proofs.Any.{both-false}
 use Rattle.refusals.proofs.First.{First, hit, skip, clear, answers, Clear, same, differ, told, same-as, differs-from, equal}
-use Rattle.systolic.specs.State.{orderOf, algebraOf, countOf, total}
-use Rattle.job_list.specs.Fits.{anyOutside, Small}
+use Rattle.systolic.specs.State.{orderOf, countOf, total}
+use Rattle.job_list.specs.Jobs.{wordsOf}
+use Rattle.job_list.specs.Fits.{anyOutside, Small, Parts}
 use Rattle.systolic.specs.Run.{runTable, runTests, ran}
 use Rattle.job_list.proofs.Fits.{tested-small, sizes-fit}
 use Rattle.array.specs.declared.head.Header.{Header}
@@ -22,16 +22,17 @@ use Rattle.array.specs.declared.running.RunAnswer.the-variants.{Made, St
 use Rattle.array.specs.inner.Header.{Told}
 use Rattle.array.specs.RunAnswer.{runNumber, runMade, Answered}
 use Rattle.array.specs.inner.Runnable.{Runnable, RunLeft}
+use Rattle.array.proofs.Pairs.{neither}
 use Rattle.array.proofs.Answers.{HeaderFits, run-turned, run-accepted, unfit-tests, made-within}
 
 -- the state's header was not read
-pub unfit : (state sizes weights : List ℕ) (allowance : ℕ) (scratch results : List ℕ) (read : HeaderRead) → Told read state → read ≡ Unfit
-    → Answered StateUnfit state scratch results (ran state sizes weights allowance scratch results)
-unfit state sizes weights allowance scratch results read is not =
-    run-turned state sizes weights allowance scratch results StateUnfit 9 refl refl (unfit-tests state sizes weights scratch results (sym (is .is) ∙ not))
+pub unfit : (state algebras sizes weights : List ℕ) (allowance : ℕ) (scratch results : List ℕ) (read : HeaderRead) → Told read state → read ≡ Unfit
+    → Answered StateUnfit state scratch results (ran state algebras sizes weights allowance scratch results)
+unfit state algebras sizes weights allowance scratch results read is not =
+    run-turned state algebras sizes weights allowance scratch results StateUnfit 9 refl refl (unfit-tests state algebras sizes weights scratch results (sym (is .is) ∙ not))
 
 -- the kinds of tests that Run makes
-pub ruleset run-tests = (same, differ, told, same-as, differs-from)
+pub ruleset run-tests = (same, differ, told, same-as, differs-from, neither)
 
 -- the test that answers `number`, and that those before it failed
 abbrev pub testOf : ℕ → List (Bool × ℕ) → Bool
@@ -65,59 +66,74 @@ none-applied : (ts : List (Bool × ℕ)) → Clear ts → First 0 ts 0
 none-applied [] c = clear
 none-applied (t ∷ ts) c = skip (c .0) (none-applied ts (c .1))
 
-module _ {h : Header} {a : Algebra} {state : List ℕ} (fit : HeaderFits h a state) where
+module _ {h : Header} {state : List ℕ} (fit : HeaderFits h state) where
+  -- what any_above asks
+  pub parts-there : {algebras sizes weights : List ℕ} {out : Bool} {words : ℕ} → length sizes ≡ h .count → length algebras ≡ h .count
+      → out ≡ anyOutside (h .order) sizes → out ≡ false → length weights ≡ words → words ≡ wordsOf sizes → Parts algebras sizes weights
+  parts-there {sizes = sizes} count one-each is passed long whole = record {
+    some = omega (arith, count, fit .ranged .some);
+    small = tested-small sizes (omega (arith, count, fit .ranged .few)) (fit .ranged .most) (sym is ∙ passed);
+    algebras-fit = one-each ∙ sym count;
+    weights-fit = long ∙ whole;
+  }
+
   -- what words_before asks of sizes that passed
   pub sizes-room : {sizes : List ℕ} {out : Bool} → length sizes ≡ h .count → out ≡ anyOutside (h .order) sizes → out ≡ false
       → (length sizes ≤ length sizes) × Small sizes
   sizes-room {sizes} count is passed =
       (omega arith, tested-small sizes (omega (arith, count, fit .ranged .few)) (fit .ranged .most) (sym is ∙ passed))
 
-  tested : (sizes weights scratch results : List ℕ) (number : ℕ)
-      → First 0 (runTable a (h .order) (h .count) sizes weights scratch results) number
-      → runTests (namedOf (algebraOf state)) state sizes weights scratch results ≡ number
-  tested sizes weights scratch results number found =
+  tested : (algebras sizes weights scratch results : List ℕ) (number : ℕ)
+      → First 0 (runTable (h .order) (h .count) algebras sizes weights scratch results) number
+      → runTests state algebras sizes weights scratch results ≡ number
+  tested algebras sizes weights scratch results number found =
       let order : h .order ≡ orderOf state = ap (λ (k : Header). k .order) (fit .header) in
       let count : h .count ≡ countOf state = ap (λ (k : Header). k .count) (fit .header) in
-      rw (fit .named, fit .good) (rw (order, count) at (answers found))
+      rw (fit .good) (rw (order, count) at (answers found))
 
   -- a test applied
-  pub refused : (sizes weights : List ℕ) (allowance : ℕ) (scratch results : List ℕ) (answer : RunAnswer)
+  pub refused : (algebras sizes weights : List ℕ) (allowance : ℕ) (scratch results : List ℕ) (answer : RunAnswer)
       → eqb (runNumber answer) 0 ≡ false → runMade answer ≡ 0
-      → testOf (runNumber answer) (runTable a (h .order) (h .count) sizes weights scratch results) ≡ true
-      → Before (runNumber answer) (runTable a (h .order) (h .count) sizes weights scratch results)
-      → Answered answer state scratch results (ran state sizes weights allowance scratch results)
-  refused sizes weights allowance scratch results answer some none applied failed =
+      → testOf (runNumber answer) (runTable (h .order) (h .count) algebras sizes weights scratch results) ≡ true
+      → Before (runNumber answer) (runTable (h .order) (h .count) algebras sizes weights scratch results)
+      → Answered answer state scratch results (ran state algebras sizes weights allowance scratch results)
+  refused algebras sizes weights allowance scratch results answer some none applied failed =
       go (runNumber answer) refl some
-      (tested sizes weights scratch results (runNumber answer)
-      (found-at (runNumber answer) (runTable a (h .order) (h .count) sizes weights scratch results) applied failed))
+      (tested algebras sizes weights scratch results (runNumber answer)
+      (found-at (runNumber answer) (runTable (h .order) (h .count) algebras sizes weights scratch results) applied failed))
     where
-      go : (m : ℕ) → runNumber answer ≡ m → eqb m 0 ≡ false → runTests (namedOf (algebraOf state)) state sizes weights scratch results ≡ runNumber answer
-          → Answered answer state scratch results (ran state sizes weights allowance scratch results)
+      go : (m : ℕ) → runNumber answer ≡ m → eqb m 0 ≡ false → runTests state algebras sizes weights scratch results ≡ runNumber answer
+          → Answered answer state scratch results (ran state algebras sizes weights allowance scratch results)
       go zero number off e = absurd (true≢false off)
-      go (suc k) number off e = run-turned state sizes weights allowance scratch results answer k number none (e ∙ number)
+      go (suc k) number off e = run-turned state algebras sizes weights allowance scratch results answer k number none (e ∙ number)
 
   -- no test applied
-  module _ (sizes weights : List ℕ) (allowance : ℕ) (scratch results : List ℕ) {left made : ℕ}
-      (passed : Clear (runTable a (h .order) (h .count) sizes weights scratch results))
+  module _ (algebras sizes weights : List ℕ) (allowance : ℕ) (scratch results : List ℕ) {left made : ℕ}
+      (passed : Clear (runTable (h .order) (h .count) algebras sizes weights scratch results))
       (smaller : made ≡ min allowance left) (rest : left ≡ total (h .order) (h .count) - h .tick) where
-    pub runnable : Runnable a h made sizes weights scratch state results
+    pub runnable : Runnable h made algebras sizes weights scratch state results
     runnable =
-        let count : length sizes ≡ h .count = search equal in
+        let (as-many, one-each) = both-false (not (eqb (length sizes) (h .count))) (not (eqb (length algebras) (h .count))) (passed .0) in
+        let count : length sizes ≡ h .count = equal (length sizes) (h .count) as-many in
         record {
           header = fit .header;
           state-fits = fit .state-fits;
           scratch-fits = search equal;
-          list = record { ranged = rw count (fit .ranged); sizes-fit = sizes-fit (h .order) sizes (search) };
+          list = record {
+            ranged = rw count (fit .ranged);
+            algebras-fit = equal (length algebras) (h .count) one-each ∙ sym count;
+            sizes-fit = sizes-fit (h .order) sizes (search);
+          };
           weights-fit = search equal;
           results-fit = search equal;
           ticks-left = rw (count, smaller, rest) (made-within (total (h .order) (h .count)) allowance (fit .within));
         }
 
-    pub accepted : {state′ scratch′ results′ : List ℕ} → RunLeft a made sizes weights state results state′ results′
+    pub accepted : {state′ scratch′ results′ : List ℕ} → RunLeft made algebras sizes weights state results state′ results′
         → scratch′ ≡ replicate (length scratch) 0
-        → Answered (Made made) state′ scratch′ results′ (ran state sizes weights allowance scratch results)
+        → Answered (Made made) state′ scratch′ results′ (ran state algebras sizes weights allowance scratch results)
     accepted {state′} {scratch′} {results′} left-by clears =
-        run-accepted state sizes weights allowance scratch results a made state′ scratch′ results′ (fit .named)
-        (tested sizes weights scratch results 0 (none-applied (runTable a (h .order) (h .count) sizes weights scratch results) passed))
+        run-accepted state algebras sizes weights allowance scratch results made state′ scratch′ results′
+        (tested algebras sizes weights scratch results 0 (none-applied (runTable (h .order) (h .count) algebras sizes weights scratch results) passed))
         (smaller ∙ ap (min allowance) (rest ∙ ap (λ (k : Header). total (k .order) (k .count) - k .tick) (fit .header)))
         left-by clears

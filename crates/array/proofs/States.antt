@@ -1,12 +1,9 @@
--- The words of a state with planes 0, and a number that names an algebra.
-use Prim.Native.Nat.{ℕ, zero, suc, _+_, _*_, _≤_}
+-- The words of a state with planes 0.
+use Prim.Native.Nat.{ℕ, _+_, _*_}
 use native.Mathlib.Omega.{arith}
 use mathlib.Core.Path.{_≡_, ap, _∙_}
 use mathlib.Core.List.{List, _++_}
 use lib.ListN.{length, replicate, replicate-append-replicate}
-use Rattle.semiring.specs.Named.{namedOf}
-use Rattle.semiring.specs.declared.Algebra.{Algebra}
-use Rattle.semiring.specs.declared.Named.the-variants.{Known}
 use Rattle.systolic.specs.State.{stateWords, stateLength}
 use Rattle.systolic.specs.Start.{zeroPlanes}
 use Rattle.array.specs.declared.head.Header.{Header}
@@ -18,19 +15,12 @@ three-planes area =
     rw (replicate-append-replicate {A = ℕ} area area 0, replicate-append-replicate {A = ℕ} area (area + area) 0) (ap (λ (m : ℕ). replicate {A = ℕ} m 0) e)
 
 header-of-zeros : (h : Header) (m : ℕ) → m ≡ stateLength (h .order)
-    → headed h (replicate m 0) ≡ stateWords (h .order) (h .algebra) (h .count) (h .tick) (zeroPlanes (h .order))
+    → headed h (replicate m 0) ≡ stateWords (h .order) (h .count) (h .tick) (zeroPlanes (h .order))
 header-of-zeros h m e =
     let area : ℕ = h .order * h .order in
     rw (e, ← replicate-append-replicate {A = ℕ} 4 (3 * area) 0, three-planes area)
 
 -- a header over a memory of zeros
 pub laid-out : (h : Header) (state zeros laid : List ℕ) → length state ≡ stateLength (h .order) → zeros ≡ replicate (length state) 0 → laid ≡ headed h zeros
-    → laid ≡ stateWords (h .order) (h .algebra) (h .count) (h .tick) (zeroPlanes (h .order))
+    → laid ≡ stateWords (h .order) (h .count) (h .tick) (zeroPlanes (h .order))
 laid-out h state zeros laid fits cleared stored = stored ∙ ap (headed h) cleared ∙ header-of-zeros h (length state) fits
-
--- a number that names an algebra is small
-pub known-small : (n : ℕ) {a : Algebra} → namedOf n ≡ Known a → n ≤ 2
-known-small zero e = omega arith
-known-small (suc zero) e = omega arith
-known-small (suc (suc zero)) e = omega arith
-known-small (suc (suc (suc n))) e = let z : _≡_ {A = ℕ} 0 1 = cc in omega arith

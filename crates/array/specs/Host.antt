@@ -4,13 +4,12 @@ use mathlib.Core.Path.{_≡_}
 use mathlib.Core.List.{List}
 use mathlib.Core.Bool.{cond}
 use lib.Dec.{eqb}
-use Rattle.semiring.specs.Named.{namedOf}
 use Rattle.systolic.specs.Start.{startTests, stateAfterStart}
 use Rattle.systolic.specs.Run.{Ran}
 
-pub record StartedHost (number algebra order : ℕ) (sizes weights state state′ : List ℕ) : Type 0 where
-  pub outcome : number ≡ startTests (namedOf algebra) order sizes weights state
-  pub memory : state′ ≡ stateAfterStart algebra order sizes weights state
+pub record StartedHost (number : ℕ) (algebras : List ℕ) (order : ℕ) (sizes weights state state′ : List ℕ) : Type 0 where
+  pub outcome : number ≡ startTests algebras order sizes weights state
+  pub memory : state′ ≡ stateAfterStart algebras order sizes weights state
 
 -- `made` is the word for the ticks before the call and `made′` after it: a refusal leaves it as it was.
 pub record RanHost (number made made′ : ℕ) (state scratch results : List ℕ) (due : Ran) : Type 0 where

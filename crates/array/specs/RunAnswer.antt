@@ -4,12 +4,13 @@ use mathlib.Core.Path.{_≡_}
 use mathlib.Core.List.{List}
 use Rattle.systolic.specs.Run.{Ran}
 use Rattle.array.specs.declared.running.RunAnswer.{RunAnswer}
-use Rattle.array.specs.declared.running.RunAnswer.the-variants.{Made, StateUnfit, JobsDiffer, SizeOutside, WeightsLength, ScratchLength, ResultsLength, WordAbove}
+use Rattle.array.specs.declared.running.RunAnswer.the-variants.{Made, StateUnfit, JobsDiffer, AlgebraUnknown, SizeOutside, WeightsLength, ScratchLength, ResultsLength, WordAbove}
 
 abbrev pub runNumber : RunAnswer → ℕ
 runNumber (Made n) = 0
 runNumber StateUnfit = 10
 runNumber JobsDiffer = 11
+runNumber AlgebraUnknown = 1
 runNumber SizeOutside = 8
 runNumber WeightsLength = 3
 runNumber ScratchLength = 12
@@ -21,6 +22,7 @@ abbrev pub runMade : RunAnswer → ℕ
 runMade (Made n) = n
 runMade StateUnfit = 0
 runMade JobsDiffer = 0
+runMade AlgebraUnknown = 0
 runMade SizeOutside = 0
 runMade WeightsLength = 0
 runMade ScratchLength = 0

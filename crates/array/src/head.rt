@@ -1,17 +1,13 @@
-// The first four words of a state.
+// The first four words of a state. The second one is 0.
 ghost use mathlib.Core.Path.{_≡_};
 ghost use Prim.Native.Nat.{_+_, _-_, _≤_};
 ghost use lib.ListN.{length};
 ghost use Rattle.job_list.specs.Fits.{Ranged};
 ghost use Rattle.systolic.specs.State.{total};
 ghost use Rattle.array.specs.inner.Header.{headed, Told};
-use semiring::Algebra;
-use semiring::Named;
-use semiring::from_number;
 
 pub struct Header {
     pub order: u16,
-    pub algebra: u16,
     pub count: u16,
     pub tick: u16,
 }
@@ -38,11 +34,10 @@ impl Header {
     // The header once `made` ticks more are made.
     pub fn next_tick(self, made: u16) -> Header
         requires { ⌜ self .tick + made ≤ 2110 ⌝ }
-        ensures { λ r. ⌜ r ≡ record { order = self .order; algebra = self .algebra; count = self .count; tick = self .tick + made } ⌝ }
+        ensures { λ r. ⌜ r ≡ record { order = self .order; count = self .count; tick = self .tick + made } ⌝ }
     {
         Header {
             order: self.order,
-            algebra: self.algebra,
             count: self.count,
             tick: self.tick + made,
         }
@@ -55,21 +50,15 @@ pub fn store_header(header: Header, state: &mut [u16])
     ensures { λ _. ⌜ now (state .exit) ≡ headed header (now (state .entry)) ⌝ }
 {
     state[0] = header.order;
-    state[1] = header.algebra;
+    state[1] = 0;
     state[2] = header.count;
     state[3] = header.tick;
 }
 
-// What the words of a state give: its header and algebra, or that it is no state.
+// What the words of a state give: its header, or that it is no state.
 pub enum HeaderRead {
-    Fit(Header, Algebra),
+    Fit(Header),
     Unfit,
-}
-
-fn wide(word: u16) -> u32
-    ensures { λ r. ⌜ r ≡ word ⌝ }
-{
-    word as u32
 }
 
 // Test 10.
@@ -81,17 +70,16 @@ pub fn read_header(state: &[u16]) -> HeaderRead
     }
     let header = Header {
         order: state[0],
-        algebra: state[1],
         count: state[2],
         tick: state[3],
-    };
-    let Named::Known(a) = from_number(wide(header.algebra)) else {
-        return HeaderRead::Unfit;
     };
     if header.order < 1 {
         return HeaderRead::Unfit;
     }
     if 32 < header.order {
+        return HeaderRead::Unfit;
+    }
+    if state[1] != 0 {
         return HeaderRead::Unfit;
     }
     if header.count < 1 {
@@ -107,5 +95,5 @@ pub fn read_header(state: &[u16]) -> HeaderRead
     if header.total() < header.tick {
         return HeaderRead::Unfit;
     }
-    HeaderRead::Fit(header, a)
+    HeaderRead::Fit(header)
 }

@@ -10,15 +10,15 @@ use crate::starting::start_number;
 // It returns 0, or the refusal's number, and then leaves the state as it was.
 #[no_mangle]
 pub extern "C" fn array_start(
-    algebra: u32,
+    algebras: &[u16],
     order: usize,
     sizes: &[u16],
     weights: &[u16],
     state: &mut [u16],
 ) -> u32
-    ensures { λ r. ⌜ StartedHost r algebra order (now (sizes .entry)) (now (weights .entry)) (now (state .entry)) (now (state .exit)) ⌝ }
+    ensures { λ r. ⌜ StartedHost r (now (algebras .entry)) order (now (sizes .entry)) (now (weights .entry)) (now (state .entry)) (now (state .exit)) ⌝ }
 {
-    let answer = start(algebra, order, sizes, weights, state);
+    let answer = start(algebras, order, sizes, weights, state);
     start_number(answer)
 }
 
@@ -26,6 +26,7 @@ pub extern "C" fn array_start(
 #[no_mangle]
 pub extern "C" fn array_run(
     state: &mut [u16],
+    algebras: &[u16],
     sizes: &[u16],
     weights: &[u16],
     allowance: u16,
@@ -34,9 +35,10 @@ pub extern "C" fn array_run(
     made: &mut u16,
 ) -> u32
     ensures { λ r. ⌜ RanHost r (now (made .entry)) (now (made .exit)) (now (state .exit)) (now (scratch .exit)) (now (results .exit))
-        (ran (now (state .entry)) (now (sizes .entry)) (now (weights .entry)) allowance (now (scratch .entry)) (now (results .entry))) ⌝ }
+        (ran (now (state .entry)) (now (algebras .entry)) (now (sizes .entry)) (now (weights .entry)) allowance (now (scratch .entry))
+        (now (results .entry))) ⌝ }
 {
-    let answer = run(state, sizes, weights, allowance, scratch, results);
+    let answer = run(state, algebras, sizes, weights, allowance, scratch, results);
     let number = run_number(answer);
     if number != 0 {
         return number;

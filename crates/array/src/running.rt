@@ -9,11 +9,11 @@ use crate::head::Header;
 use crate::head::HeaderRead;
 use crate::head::read_header;
 use crate::head::store_header;
+use job_list::any_above;
 use job_list::any_outside;
+use job_list::any_unknown;
 use job_list::words_before;
 use memory::clear;
-use semiring::Algebra;
-use semiring::has_word_above;
 use ticks::advance;
 use turns::Span;
 
@@ -22,6 +22,7 @@ pub enum RunAnswer {
     Made(u16),
     StateUnfit,
     JobsDiffer,
+    AlgebraUnknown,
     SizeOutside,
     WeightsLength,
     ScratchLength,
@@ -31,26 +32,26 @@ pub enum RunAnswer {
 
 // `made` ticks of a state that runs, in its own planes.
 fn proceed(
-    algebra: Algebra,
     header: Header,
     made: u16,
+    algebras: &[u16],
     sizes: &[u16],
     weights: &[u16],
     scratch: &mut [u16],
     state: &mut [u16],
     results: &mut [u16],
 )
-    requires { ⌜ Runnable algebra header made (now sizes) (now weights) (now scratch) (now state) (now results) ⌝ }
-    ensures { λ _. ⌜ RunLeft algebra made (now (sizes .entry)) (now (weights .entry)) (now (state .entry)) (now (results .entry))
-        (now (state .exit)) (now (results .exit)) ⌝ }
+    requires { ⌜ Runnable header made (now algebras) (now sizes) (now weights) (now scratch) (now state) (now results) ⌝ }
+    ensures { λ _. ⌜ RunLeft made (now (algebras .entry)) (now (sizes .entry)) (now (weights .entry)) (now (state .entry))
+        (now (results .entry)) (now (state .exit)) (now (results .exit)) ⌝ }
 {
     let n = header.order as usize;
     let from = header.tick as usize;
     let to = from + made as usize;
     advance(
-        algebra,
         n,
         Span { from: from, to: to },
+        algebras,
         sizes,
         weights,
         scratch,
@@ -78,6 +79,7 @@ fn smaller(x: u16, y: u16) -> u16
 // leaves the scratch zero.
 pub fn run(
     state: &mut [u16],
+    algebras: &[u16],
     sizes: &[u16],
     weights: &[u16],
     allowance: u16,
@@ -85,15 +87,22 @@ pub fn run(
     results: &mut [u16],
 ) -> RunAnswer
     ensures { λ r. ⌜ Answered r (now (state .exit)) (now (scratch .exit)) (now (results .exit))
-        (ran (now (state .entry)) (now (sizes .entry)) (now (weights .entry)) allowance (now (scratch .entry)) (now (results .entry))) ⌝ }
+        (ran (now (state .entry)) (now (algebras .entry)) (now (sizes .entry)) (now (weights .entry)) allowance (now (scratch .entry))
+        (now (results .entry))) ⌝ }
 {
-    let HeaderRead::Fit(header, algebra) = read_header(state) else {
+    let HeaderRead::Fit(header) = read_header(state) else {
         return RunAnswer::StateUnfit;
     };
     let order = header.order as usize;
     let count = header.count as usize;
     if sizes.len() != count {
         return RunAnswer::JobsDiffer;
+    }
+    if algebras.len() != count {
+        return RunAnswer::JobsDiffer;
+    }
+    if any_unknown(algebras) {
+        return RunAnswer::AlgebraUnknown;
     }
     if any_outside(order, sizes) {
         return RunAnswer::SizeOutside;
@@ -108,14 +117,14 @@ pub fn run(
     if results.len() != words {
         return RunAnswer::ResultsLength;
     }
-    if has_word_above(algebra, weights) {
+    if any_above(algebras, sizes, weights) {
         return RunAnswer::WordAbove;
     }
     let made = smaller(allowance, header.ticks_left());
     proceed(
-        algebra,
         header,
         made,
+        algebras,
         sizes,
         weights,
         scratch,
@@ -134,6 +143,7 @@ pub fn run_number(answer: RunAnswer) -> u32
         RunAnswer::Made(_) => 0,
         RunAnswer::StateUnfit => 10,
         RunAnswer::JobsDiffer => 11,
+        RunAnswer::AlgebraUnknown => 1,
         RunAnswer::SizeOutside => 8,
         RunAnswer::WeightsLength => 3,
         RunAnswer::ScratchLength => 12,
@@ -150,6 +160,7 @@ pub fn ticks_made(answer: RunAnswer) -> u16
         RunAnswer::Made(made) => made,
         RunAnswer::StateUnfit => 0,
         RunAnswer::JobsDiffer => 0,
+        RunAnswer::AlgebraUnknown => 0,
         RunAnswer::SizeOutside => 0,
         RunAnswer::WeightsLength => 0,
         RunAnswer::ScratchLength => 0,

@@ -7,12 +7,11 @@ ghost use Rattle.array.specs.StartLeft.{StartLeft};
 ghost use Rattle.array.specs.StartAnswer.{startNumber};
 use crate::head::Header;
 use crate::head::store_header;
+use job_list::any_above;
 use job_list::any_outside;
+use job_list::any_unknown;
 use job_list::words_before;
 use memory::clear;
-use semiring::Named;
-use semiring::from_number;
-use semiring::has_word_above;
 
 // What a call of start answers: that the state is laid out, or why it turned back.
 pub enum StartAnswer {
@@ -30,25 +29,25 @@ pub enum StartAnswer {
 fn lay_out(header: Header, state: &mut [u16])
     requires { ⌜ length (now state) ≡ stateLength (header .order) ⌝ }
     ensures { λ _. ⌜ now (state .exit)
-        ≡ stateWords (header .order) (header .algebra) (header .count) (header .tick) (zeroPlanes (header .order)) ⌝ }
+        ≡ stateWords (header .order) (header .count) (header .tick) (zeroPlanes (header .order)) ⌝ }
 {
     clear(state);
     store_header(header, state);
 }
 
-// A list of jobs for an array of the given order. A refusal leaves the state as it was.
+// A list of jobs for an array of the given order, with the number of each job's algebra. A refusal leaves the state as it was.
 pub fn start(
-    algebra: u32,
+    algebras: &[u16],
     order: usize,
     sizes: &[u16],
     weights: &[u16],
     state: &mut [u16],
 ) -> StartAnswer
-    ensures { λ r. ⌜ StartLeft r algebra order (now (sizes .entry)) (now (weights .entry)) (now (state .entry)) (now (state .exit)) ⌝ }
+    ensures { λ r. ⌜ StartLeft r (now (algebras .entry)) order (now (sizes .entry)) (now (weights .entry)) (now (state .entry)) (now (state .exit)) ⌝ }
 {
-    let Named::Known(a) = from_number(algebra) else {
+    if any_unknown(algebras) {
         return StartAnswer::AlgebraUnknown;
-    };
+    }
     if order < 1 {
         return StartAnswer::OrderOutside;
     }
@@ -61,6 +60,9 @@ pub fn start(
     if 16 < sizes.len() {
         return StartAnswer::JobsOutside;
     }
+    if algebras.len() != sizes.len() {
+        return StartAnswer::JobsOutside;
+    }
     if any_outside(order, sizes) {
         return StartAnswer::SizeOutside;
     }
@@ -70,13 +72,12 @@ pub fn start(
     if state.len() != 4 + 3 * (order * order) {
         return StartAnswer::StateLength;
     }
-    if has_word_above(a, weights) {
+    if any_above(algebras, sizes, weights) {
         return StartAnswer::WordAbove;
     }
     lay_out(
         Header {
             order: order as u16,
-            algebra: algebra as u16,
             count: sizes.len() as u16,
             tick: 0,
         },

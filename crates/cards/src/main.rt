@@ -29,8 +29,11 @@ fn main() {
     );
     tell(b"array, far and none: ", array_cards::far());
     tell(b"array, third pass: ", array_cards::third_pass());
+    tell(b"array, three algebras: ", array_cards::three_algebras());
+    tell(b"array, lists of algebras: ", array_cards::algebras());
     tell(b"array, zero ticks: ", limit_cards::zero_ticks());
     tell(b"array, two lines of scratch: ", scratch_cards::two_lines());
+    tell(b"sheet, three algebras: ", listing_card::mixed());
     tell(b"way, two of one word: ", way_cards::two_ways());
     tell(b"way, a point to itself: ", way_cards::alone());
     tell(b"way, none: ", way_cards::no_way());

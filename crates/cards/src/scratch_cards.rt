@@ -6,12 +6,13 @@ use memory::same_words;
 
 // A run of seven ticks on an array of order 3 with the given scratch, which answers the given number.
 pub fn lends(scratch: &mut [u16], number: u32, after: &[u16]) -> bool {
+    let a = [1u16];
     let n = [3u16];
     let w = [0u16, 4, 9, 65535, 0, 3, 1, 65535, 0];
     let mut state = [9u16; 31];
     let mut r = [9u16; 9];
-    let started = starts(1, 3, &n, &w, &mut state, 0);
-    let answer = run(&mut state, &n, &w, 7, scratch, &mut r);
+    let started = starts(&a, 3, &n, &w, &mut state, 0);
+    let answer = run(&mut state, &a, &n, &w, 7, scratch, &mut r);
     started & (run_number(answer) == number) & same_words(scratch, after)
 }
 

@@ -14,16 +14,17 @@ fn table(weight: u16, expected: u16) -> bool {
 }
 
 fn start(number: u32) -> bool {
-    starts(1, 1, &[1u16], &[7u16], &mut [9u16; 7], number)
+    starts(&[1u16], 1, &[1u16], &[7u16], &mut [9u16; 7], number)
 }
 
 // One cell of 4 ticks in all, run to its end from the given tick; its word 0 leaves on tick 3.
 fn cell(tick: u16, ticks: u16, expected: u16) -> bool {
-    let mut state = [1u16, 1, 1, tick, 0, 0, 0];
+    let mut state = [1u16, 0, 1, tick, 0, 0, 0];
     let mut scratch = [9u16; 2];
     let mut r = [9u16];
     makes(
         &mut state,
+        &[1u16],
         &[1u16],
         &[7u16],
         9,

@@ -37,6 +37,17 @@ module _ {work : ℕ → ℕ → ℕ → ℕ → Cell → Cell} {n u : ℕ} wher
       at i j pass k f g b on (no d) =
           two .inside i j pass k (omega arith) g b on ∙ ap (work i j pass k) (one .after i j (omega arith) (omega arith) b)
 
+-- The same work under another name.
+pub done-as : {work work′ : ℕ → ℕ → ℕ → ℕ → Cell → Cell} {n u from to : ℕ} {old new : List ℕ}
+    → ((i j pass k : ℕ) (x : Cell) → from ≤ i → i < to → work i j pass k x ≡ work′ i j pass k x)
+    → Done work n u old from to new → Done work′ n u old from to new
+done-as {n = n} {old = old} same done = record {
+  size = done .size;
+  inside = λ i j pass k f g b on. done .inside i j pass k f g b on ∙ same i j pass k (wordsAt n old i j) f g;
+  before = done .before;
+  after = done .after;
+}
+
 -- Some rows of an array that begins a tick.
 pub some-rows : {n count from to : ℕ} {head s : Turn} {l : List ℕ} → Head n count head → from ≤ to → to ≤ n → s .point < n → 2 ≤ s .pass
     → length l ≡ 3 * (n * n) → Rows n count from to s l

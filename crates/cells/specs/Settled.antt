@@ -3,11 +3,12 @@ use Prim.Native.Nat.{ℕ, _+_, _*_, _<_, _≤_}
 use mathlib.Core.Path.{_≡_}
 use mathlib.Core.List.{List}
 use mathlib.Core.Bool.{true, cond}
+use lib.Dec.{ltb}
 use lib.ListN.{length, getD}
 use Rattle.semiring.specs.Algebra.{noneOf, sumOf, productOf}
 use Rattle.semiring.specs.declared.Algebra.{Algebra}
 use Rattle.systolic.specs.Cell.{Cell}
-use Rattle.turns.specs.Turn.{live, begins, passIn, Phase}
+use Rattle.turns.specs.Turn.{live, begins, passIn, Phase, stepOf}
 use Rattle.turns.specs.Layout.{wordsAt}
 use Rattle.turns.specs.declared.span.Span.{Span}
 use Rattle.turns.specs.declared.turn.Turn.{Turn}
@@ -35,10 +36,14 @@ pub record Column (n i k r : ℕ) : Type 0 where
   pub here : r ≤ k → i + r ≡ k
   pub behind : k < r → i + r ≡ k + n
 
--- All cells.
-pub record Settled (algebra : Algebra) (n count u : ℕ) (old new : List ℕ) : Type 0 where
+-- The algebra of row i, of rows in two: those up to a point, and the others.
+abbrev pub rowAlgebra : Algebra → Algebra → ℕ → ℕ → Algebra
+rowAlgebra here behind point i = cond (ltb i (point + 1)) here behind
+
+-- All cells, of which the first has turn `head`.
+pub record Settled (here behind : Algebra) (n count : ℕ) (head : Turn) (old new : List ℕ) : Type 0 where
   pub size : length new ≡ length old
-  pub cell : (i j pass k : ℕ) → i < n → j < n → Phase n u i j pass k
+  pub cell : (i j pass k : ℕ) → i < n → j < n → Phase n (stepOf n head) i j pass k
       → wordsAt n new i j
       ≡ (let x : Cell = wordsAt n old i j in
-      cond (live count pass) (worked algebra (passIn pass) k i j (x .a) (x .b) (x .c)) x)
+      cond (live count pass) (worked (rowAlgebra here behind (head .point) i) (passIn pass) k i j (x .a) (x .b) (x .c)) x)

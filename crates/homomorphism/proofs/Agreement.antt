@@ -17,9 +17,7 @@ use Rattle.closure.specs.Tests.{eliminationTests, resultAfter}
 use Rattle.closure.proofs.Accepted.{Accepted, accepted, accepted-result}
 use Rattle.closure.proofs.Equations.{eliminated-closure}
 use Rattle.closure.proofs.Holds.{rowByRow-holds}
-use Rattle.job_list.specs.Fits.{ListAccepted}
-use Rattle.job_list.specs.Jobs.{jobsOf}
-use Rattle.systolic.proofs.Started.{started-known}
+use Rattle.systolic.proofs.Started.{started-by}
 use Rattle.homomorphism.specs.Support.{support}
 use Rattle.homomorphism.specs.claims.Agreement.{Agree, SameLinks, Checked, by-elimination, by-start, Agreement, Agreement-result}
 use Rattle.homomorphism.proofs.Commutes.{commutes}
@@ -54,9 +52,8 @@ closure-agrees a n reach w reach-words words same i j hi hj =
 
 checked-words : {a : Algebra} {n : ℕ} {w : List ℕ} → Checked a n w → (p : ℕ) → Word a (getD w p 0)
 checked-words {a} {n} {w} (by-elimination r e) p = let input : Accepted a n w r = accepted e in input .words p
-checked-words {a} (by-start order sizes weights state e q h size-is weights-are) p =
-    let list : ListAccepted (jobsOf a order sizes weights) = started-known order sizes weights state e in
-    rw weights-are (list .words q p)
+checked-words (by-start algebras order sizes weights state e q h algebra-is size-is weights-are) p =
+    rw (algebra-is, weights-are) (started-by algebras order sizes weights state e .words q p)
 
 pub agreement : Agreement
 agreement a n reach w checked checked′ = closure-agrees a n reach w (checked-words checked) (checked-words checked′)

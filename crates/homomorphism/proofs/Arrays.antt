@@ -7,16 +7,13 @@ use mathlib.Core.List.{List}
 use lib.ListN.{length}
 use Rattle.systolic.specs.claims.Demand.{Call, Runs, Claim}
 use Rattle.systolic.specs.claims.Corollaries.{Past}
-use Rattle.semiring.specs.declared.Algebra.the-variants.{Reach}
-use Rattle.semiring.specs.Named.{namedOf, numberOf}
+use Rattle.semiring.specs.declared.Algebra.{Algebra}
 use Rattle.closure.specs.Elimination.{closure}
-use Rattle.job_list.specs.Fits.{ListAccepted}
-use Rattle.job_list.specs.Jobs.{Jobs, size, wordsOf, jobWeights, jobsOf}
-use Rattle.systolic.proofs.Started.{started-known, started-by}
+use Rattle.job_list.specs.Jobs.{Jobs, size, algebra, wordsOf, jobWeights, jobsOf}
 use Rattle.systolic.proofs.Demand.{start-claim}
 use Rattle.systolic.proofs.Corollaries.{past-word}
 use Rattle.homomorphism.specs.claims.Agreement.{by-start}
-use Rattle.homomorphism.specs.claims.Arrays.{Agreement-array}
+use Rattle.homomorphism.specs.claims.Arrays.{Agreement-array, Agreement-list}
 use Rattle.homomorphism.proofs.Agreement.{agreement}
 
 -- Where the length of the results doesn't fit the jobs no tick is made, so none is past.
@@ -29,23 +26,23 @@ past-fits {J} {results} claim past =
     ]
 
 pub agreement-array : Agreement-array
-agreement-array algebra order order′ sizes weights state sizes′ weights′ state′ e e′ =
-    let (a, named, list′) = started-by (namedOf algebra) order′ sizes′ weights′ state′ e′ in
-    let list : ListAccepted (jobsOf Reach order sizes weights) = started-known order sizes weights state e in (
-      a,
-      named,
-      λ calls calls′ results results′ q q′ same-size same i k past past′.
-          let J = jobsOf Reach order sizes weights in
-          let J′ = jobsOf a order′ sizes′ weights′ in
-          let claim = start-claim (numberOf Reach) order sizes weights state e list refl calls results in
-          let claim′ = start-claim algebra order′ sizes′ weights′ state′ e′ list′ named calls′ results′ in
-          rw (
-            past-word claim (past-fits claim past) past,
-            past-word claim′ (past-fits claim′ past′) past′
-                ∙ ap (λ (n : ℕ). closure a n (jobWeights J′ q′) i k) (sym same-size),
-          )
-          (agreement a (size J q) (jobWeights J q) (jobWeights J′ q′)
-          (by-start order sizes weights state e q (past .job) refl refl)
-          (by-start order′ sizes′ weights′ state′ (rw named at e′) q′ (past′ .job) same-size refl)
-          same i k (past .row) (past .column)),
+agreement-array order order′ algebras sizes weights state algebras′ sizes′ weights′ state′ e e′ calls calls′ results results′
+    q q′ in-reach same-size same i k past past′ =
+    let J = jobsOf algebras order sizes weights in
+    let J′ = jobsOf algebras′ order′ sizes′ weights′ in
+    let a = algebra J′ q′ in
+    let claim = start-claim algebras order sizes weights state e calls results in
+    let claim′ = start-claim algebras′ order′ sizes′ weights′ state′ e′ calls′ results′ in
+    rw (
+      past-word claim (past-fits claim past) past ∙ ap (λ (b : Algebra). closure b (size J q) (jobWeights J q) i k) in-reach,
+      past-word claim′ (past-fits claim′ past′) past′
+          ∙ ap (λ (n : ℕ). closure a n (jobWeights J′ q′) i k) (sym same-size),
     )
+    (agreement a (size J q) (jobWeights J q) (jobWeights J′ q′)
+    (by-start algebras order sizes weights state e q (past .job) (sym in-reach) refl refl)
+    (by-start algebras′ order′ sizes′ weights′ state′ e′ q′ (past′ .job) refl same-size refl)
+    same i k (past .row) (past .column))
+
+pub agreement-list : Agreement-list
+agreement-list algebras order sizes weights state e calls results =
+    agreement-array order order algebras sizes weights state algebras sizes weights state e e calls calls results results

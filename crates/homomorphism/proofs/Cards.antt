@@ -3,10 +3,15 @@ use Prim.Native.Nat.{ℕ, zero, suc, _<_}
 use native.Mathlib.Omega.{arith}
 use mathlib.Core.Path.{_≡_, refl}
 use mathlib.Core.Logic.{_≢_}
-use Rattle.memory.specs.Lists.{listOf}
+use Rattle.memory.specs.Lists.{listOf, any}
 use Rattle.semiring.specs.declared.Algebra.the-variants.{Distance, Steepest}
 use Rattle.closure.specs.Table.{entries}
 use Rattle.closure.specs.Elimination.{passes, closure, eliminated}
+use Rattle.job_list.specs.Jobs.{offset, algebraOf}
+use Rattle.job_list.specs.Fits.{aboveBefore}
+use Rattle.systolic.specs.Tick.{cellAfter, planesAfter, emitted, emittedRows, ticked, ticks}
+use Rattle.systolic.specs.Run.{ranOn, refusedRun, ran}
+use Rattle.systolic.specs.claims.Demand.{runs}
 use Rattle.homomorphism.specs.Support.{support}
 use Rattle.homomorphism.specs.claims.Agreement.{Agree}
 use Rattle.homomorphism.specs.claims.Cards.{AgreementCards, links, reachLinks}
@@ -35,7 +40,7 @@ three (suc (suc zero)) h agree = let e : _≡_ {A = ℕ} 0 1 = agree .some (λ d
 three (suc (suc (suc i))) h agree = omega arith
 
 pub agreement-cards : AgreementCards
-unfolding listOf passes closure eliminated
+unfolding listOf any passes closure eliminated offset algebraOf aboveBefore cellAfter planesAfter emitted emittedRows ticked ticks ranOn refusedRun ran runs
 agreement-cards = record {
   diagonals = three;
   same-links = λ i j hi hj d. support-agrees Distance (six i j hi hj d);
@@ -43,4 +48,5 @@ agreement-cards = record {
   reach = refl;
   distance = refl;
   steepest = refl;
+  one-list = refl;
 }

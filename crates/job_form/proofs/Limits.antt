@@ -32,8 +32,8 @@ AllLimited [] = Unit {0}
 AllLimited (t ∷ ts) = Limited t × AllLimited ts
 
 abbrev pub RowLimited : Form → Type 0
-RowLimited (list n a) = Unit {0}
-RowLimited (job n) = Unit {0}
+RowLimited (list n) = Unit {0}
+RowLimited (job n a) = Unit {0}
 RowLimited (row ts) = AllLimited ts
 RowLimited close = Unit {0}
 RowLimited skipped = Unit {0}
@@ -77,11 +77,11 @@ unfolding words
 limited-for head.Comment ps = tt
 limited-for head.List [] = tt
 limited-for head.List (n ∷ []) = tt
-limited-for head.List (n ∷ a ∷ []) = tt
-limited-for head.List (n ∷ a ∷ p ∷ ps) = tt
+limited-for head.List (n ∷ p ∷ ps) = tt
 limited-for head.Job [] = tt
 limited-for head.Job (n ∷ []) = tt
-limited-for head.Job (n ∷ p ∷ ps) = tt
+limited-for head.Job (n ∷ a ∷ []) = tt
+limited-for head.Job (n ∷ a ∷ p ∷ ps) = tt
 limited-for head.Row [] = tt
 limited-for head.Row (p ∷ ps) = limited-words (p ∷ ps)
 limited-for head.EmptyRow [] = tt

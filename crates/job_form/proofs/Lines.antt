@@ -38,21 +38,21 @@ module _ {from : ℕ} {line : List ℕ} {a b : ℕ} (f : Found from line a b) wh
 
     module _ {c d : ℕ} (g : Found b line c d) where
       -- one part, and two at least
-      pub list-one : d ≤ c → Says line said.Unknown (listForm (partsFrom from line))
-      list-one h = record { is = rw (parts-some f some, parts-none g h) }
+      pub list-one : {t : Token} → d ≤ c → t ≡ tokenOf (between a b line) → Says line (said.List t) (listForm (partsFrom from line))
+      list-one h e = record { is = rw (parts-some f some, parts-none g h, e) }
 
-      pub job-one : {t : Token} → d ≤ c → t ≡ tokenOf (between a b line) → Says line (said.Job t) (jobForm (partsFrom from line))
-      job-one h e = record { is = rw (parts-some f some, parts-none g h, e) }
+      pub list-more : c < d → Says line said.Unknown (listForm (partsFrom from line))
+      list-more h = record { is = rw (parts-some f some, parts-some g h) }
 
-      pub job-more : c < d → Says line said.Unknown (jobForm (partsFrom from line))
-      job-more h = record { is = rw (parts-some f some, parts-some g h) }
+      pub job-one : d ≤ c → Says line said.Unknown (jobForm (partsFrom from line))
+      job-one h = record { is = rw (parts-some f some, parts-none g h) }
 
-      pub list-two : {x y : ℕ} {t u : Token} → c < d → Found d line x y → y ≤ x → t ≡ tokenOf (between a b line) → u ≡ tokenOf (between c d line)
-          → Says line (said.List t u) (listForm (partsFrom from line))
-      list-two h i k e e′ = record { is = rw (parts-some f some, parts-some g h, parts-none i k, e, e′) }
+      pub job-two : {x y : ℕ} {t u : Token} → c < d → Found d line x y → y ≤ x → t ≡ tokenOf (between a b line) → u ≡ tokenOf (between c d line)
+          → Says line (said.Job t u) (jobForm (partsFrom from line))
+      job-two h i k e e′ = record { is = rw (parts-some f some, parts-some g h, parts-none i k, e, e′) }
 
-      pub list-more : {x y : ℕ} → c < d → Found d line x y → x < y → Says line said.Unknown (listForm (partsFrom from line))
-      list-more h i k = record { is = rw (parts-some f some, parts-some g h, parts-some i k) }
+      pub job-more : {x y : ℕ} → c < d → Found d line x y → x < y → Says line said.Unknown (jobForm (partsFrom from line))
+      job-more h i k = record { is = rw (parts-some f some, parts-some g h, parts-some i k) }
 
 -- the word of a row: the last, or one before it
 module _ {line : List ℕ} {start end start′ end′ : ℕ} {t : Token} (f : Found end line start′ end′) where

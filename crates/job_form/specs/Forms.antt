@@ -15,8 +15,8 @@ use Rattle.memory.specs.Lists.{same}
 use Rattle.job_form.specs.Tokens.{tokenOf}
 
 pub data Form : Type 0 where
-  list : Token → Token → Form
-  job : Token → Form
+  list : Token → Form
+  job : Token → Token → Form
   row : List Token → Form
   close : Form
   skipped : Form
@@ -35,18 +35,17 @@ unfoldable pub words : List (List ℕ) → List Token
 words [] = []
 words (p ∷ ps) = wordIn p ps ∷ words ps
 
--- "`(list N A`"
+-- K8: "The text says `(list N` and `(job n A`".
 abbrev pub listForm : List (List ℕ) → Form
 listForm [] = unknown
-listForm (n ∷ []) = unknown
-listForm (n ∷ a ∷ []) = list (tokenOf n) (tokenOf a)
-listForm (n ∷ a ∷ p ∷ ps) = unknown
+listForm (n ∷ []) = list (tokenOf n)
+listForm (n ∷ p ∷ ps) = unknown
 
--- "`(job n`"
 abbrev pub jobForm : List (List ℕ) → Form
 jobForm [] = unknown
-jobForm (n ∷ []) = job (tokenOf n)
-jobForm (n ∷ p ∷ ps) = unknown
+jobForm (n ∷ []) = unknown
+jobForm (n ∷ a ∷ []) = job (tokenOf n) (tokenOf a)
+jobForm (n ∷ a ∷ p ∷ ps) = unknown
 
 abbrev pub rowForm : List (List ℕ) → Form
 rowForm [] = unknown

@@ -26,8 +26,8 @@ pub enum Head {
 
 // What a line says. The words of a row are the parts from `from` on.
 pub enum Line {
-    List { order: Token, algebra: Token },
-    Job { size: Token },
+    List { order: Token },
+    Job { size: Token, algebra: Token },
     Row { from: usize },
     EmptyRow,
     Close,
@@ -81,19 +81,12 @@ fn list_line(line: &[u8], from: usize) -> Line
     if b <= a {
         return Line::Unknown;
     }
-    let algebra = next_part(line, b);
-    let c = algebra.start;
-    let d = algebra.end;
-    if d <= c {
-        return Line::Unknown;
-    }
-    let more = next_part(line, d);
-    if more.start < more.end {
+    let further = next_part(line, b);
+    if further.start < further.end {
         return Line::Unknown;
     }
     Line::List {
         order: token_of(&line[a..b]),
-        algebra: token_of(&line[c..d]),
     }
 }
 
@@ -106,12 +99,19 @@ fn job_line(line: &[u8], from: usize) -> Line
     if b <= a {
         return Line::Unknown;
     }
-    let more = next_part(line, b);
+    let algebra = next_part(line, b);
+    let c = algebra.start;
+    let d = algebra.end;
+    if d <= c {
+        return Line::Unknown;
+    }
+    let more = next_part(line, d);
     if more.start < more.end {
         return Line::Unknown;
     }
     Line::Job {
         size: token_of(&line[a..b]),
+        algebra: token_of(&line[c..d]),
     }
 }
 

@@ -1,23 +1,26 @@
 -- What the tests of a list's jobs tell of them, and how many words they have at most.
-use Prim.Native.Nat.{ℕ, zero, suc, _+_, _*_, _≤_, _<_, zero-le}
+use Prim.Native.Nat.{ℕ, zero, suc, _*_, _≤_, _<_, zero-le}
 use native.Mathlib.Decide.{decLt}
+use native.Mathlib.Nat.{not-suc-le-zero}
 use native.Mathlib.Omega.{arith}
-use mathlib.Core.Path.{_≡_, sym, ap, _∙_}
+use mathlib.Core.Path.{_≡_, refl}
 use mathlib.Core.List.{List}
 use mathlib.Core.Bool.{false}
-use lib.ListN.{length, getD, take, drop, length-take, List·getD-eq-default}
-use lib.Seq.{getD-take, getD-drop}
-use Rattle.memory.proofs.Any.{any-none, none-any}
+use lib.Dec.{ltb}
+use lib.ListN.{length, getD, List·getD-eq-default}
+use borrow.Author.Tests.{le-ltb, ltb-false}
+use Rattle.memory.proofs.Any.{any-none, none-any, both-false}
 use Rattle.memory.proofs.Geometry.{square-fits}
 use Rattle.refusals.specs.Tests.{outside}
 use Rattle.refusals.proofs.First.{inside, within}
 use Rattle.semiring.specs.Algebra.{Word, topOf}
 use Rattle.semiring.specs.Words.{anyAbove}
-use Rattle.semiring.specs.declared.Algebra.{Algebra}
+use Rattle.semiring.specs.Named.{namedOf}
+use Rattle.semiring.specs.declared.Named.the-variants.{Known}
 use Rattle.semiring.proofs.Above.{none-above, words-below}
-use Rattle.job_list.specs.Jobs.{Jobs, jobsOf, count, size, offset, jobWeights}
-use Rattle.job_list.specs.Fits.{anyOutside, ListFits, ListAccepted, Small}
-use Rattle.job_list.proofs.Places.{offset-none, offset-next, offset-find}
+use Rattle.job_list.specs.Jobs.{Jobs, jobsOf, known, algebraOf, algebra, count, size, offset, partOf, jobWeights}
+use Rattle.job_list.specs.Fits.{anyUnknown, anyOutside, aboveBefore, jobAbove, ListFits, ListAccepted, Small}
+use Rattle.job_list.proofs.Places.{offset-none, offset-next}
 
 pub area-fits : {n : ℕ} → n ≤ 32 → n * n ≤ 1024
 area-fits h = square-fits h
@@ -27,28 +30,55 @@ pub sizes-fit : (order : ℕ) (sizes : List ℕ) → anyOutside order sizes ≡ 
 sizes-fit order sizes e q h = inside (any-none (outside 1 order) sizes e q h)
 
 -- a list that passed the tests of its order, its count and its sizes
-pub tested-fits : (a : Algebra) (order : ℕ) (sizes weights : List ℕ) → outside 1 32 order ≡ false → outside 1 16 (length sizes) ≡ false
-    → anyOutside order sizes ≡ false → ListFits (jobsOf a order sizes weights)
-tested-fits a order sizes weights e f g =
+pub tested-fits : (algebras : List ℕ) (order : ℕ) (sizes weights : List ℕ) → outside 1 32 order ≡ false → outside 1 16 (length sizes) ≡ false
+    → length algebras ≡ length sizes → anyOutside order sizes ≡ false → ListFits (jobsOf algebras order sizes weights)
+tested-fits algebras order sizes weights e f one-each g =
     let (least, most) = inside e in
     let (some, few) = inside f in
-    record { ranged = record { least = least; most = most; some = some; few = few }; sizes-fit = sizes-fit order sizes g }
+    record {
+      ranged = record { least = least; most = most; some = some; few = few };
+      algebras-fit = one-each;
+      sizes-fit = sizes-fit order sizes g;
+    }
 
--- a part of words is of words: past its end stands 0
-part-words : (a : Algebra) (n m : ℕ) (w : List ℕ) → ((p : ℕ) → Word a (getD w p 0)) → (p : ℕ) → Word a (getD (take n (drop m w)) p 0)
-part-words a n m w words p = go (decLt p n)
+-- every number that passed test 1 names an algebra, its job's
+pub tested-numbers : (algebras : List ℕ) → anyUnknown algebras ≡ false → (q : ℕ) → q < length algebras → getD algebras q 0 ≤ 2
+tested-numbers algebras e q h = ltb-false 2 (getD algebras q 0) (any-none (ltb 2) algebras e q h)
+
+number-named : (n : ℕ) → n ≤ 2 → namedOf n ≡ Known (known (namedOf n))
+number-named zero h = refl
+number-named (suc zero) h = refl
+number-named (suc (suc zero)) h = refl
+number-named (suc (suc (suc n))) h = absurd (omega arith)
+
+pub algebra-named : {J : Jobs} → ListAccepted J → (q : ℕ) → q < count J → namedOf (getD (J .algebras) q 0) ≡ Known (algebra J q)
+unfolding algebraOf
+algebra-named {J} list q h = number-named (getD (J .algebras) q 0) (list .numbers q (omega (arith, list .fits .algebras-fit)))
+
+-- no word of the first q jobs is above, so none of each is; past the jobs there are no words
+pub above-one : (algebras sizes weights : List ℕ) (m : ℕ) → aboveBefore algebras sizes weights m ≡ false → (q : ℕ) → q < m
+    → anyAbove (topOf (algebraOf algebras q)) (partOf sizes weights q) ≡ false
+unfolding aboveBefore
+above-one algebras sizes weights zero e q h = absurd (not-suc-le-zero h)
+above-one algebras sizes weights (suc m) e q h =
+    let (before, last) = both-false (aboveBefore algebras sizes weights m) (anyAbove (topOf (algebraOf algebras m)) (partOf sizes weights m)) e in
+    go last (above-one algebras sizes weights m before q) (decLt q m)
   where
-    go : Dec (p < n) → Word a (getD (take n (drop m w)) p 0)
-    go (yes h) = rw (getD-take n (drop m w) p 0 h, getD-drop m w p 0) (words (m + p))
-    go (no h) =
-        let short : length (take n (drop m w)) ≤ p = omega (arith, length-take n (drop m w)) in
-        rw (List·getD-eq-default (take n (drop m w)) 0 short) zero-le
+    go : anyAbove (topOf (algebraOf algebras m)) (partOf sizes weights m) ≡ false
+        → (q < m → anyAbove (topOf (algebraOf algebras q)) (partOf sizes weights q) ≡ false)
+        → Dec (q < m) → anyAbove (topOf (algebraOf algebras q)) (partOf sizes weights q) ≡ false
+    go last earlier (yes l) = earlier l
+    go last earlier (no l) = let same : q ≡ m = omega arith in rw same last
 
--- no word of the list is above, so none of a job is
-pub tested-words : (a : Algebra) (order : ℕ) (sizes weights : List ℕ) → anyAbove (topOf a) weights ≡ false
-    → (q p : ℕ) → Word a (getD (jobWeights (jobsOf a order sizes weights) q) p 0)
-tested-words a order sizes weights e q =
-    part-words a (getD sizes q 0 * getD sizes q 0) (offset sizes q) weights (words-below (topOf a) weights e)
+pub tested-words : (algebras : List ℕ) (order : ℕ) (sizes weights : List ℕ) → jobAbove algebras sizes weights ≡ false
+    → (q p : ℕ) → Word (algebraOf algebras q) (getD (jobWeights (jobsOf algebras order sizes weights) q) p 0)
+tested-words algebras order sizes weights e q p = go (decLt q (length sizes))
+  where
+    go : Dec (q < length sizes) → Word (algebraOf algebras q) (getD (partOf sizes weights q) p 0)
+    go (yes h) = words-below (topOf (algebraOf algebras q)) (partOf sizes weights q) (above-one algebras sizes weights (length sizes) e q h) p
+    go (no h) =
+        let none : getD sizes q 0 ≡ 0 = List·getD-eq-default sizes 0 {n = q} (omega arith) in
+        rw none zero-le
 
 -- The other way: a list that fits passes the tests.
 module _ {J : Jobs} (fits : ListFits J) where
@@ -63,17 +93,19 @@ module _ {J : Jobs} (fits : ListFits J) where
       none-any (outside 1 (J .order)) (J .sizes)
       (λ q h. let (least, most) = fits .sizes-fit q h in within 1 (J .order) (size J q) least most)
 
--- each of the list's words is one of a job
-pub words-pass : {a : Algebra} {order : ℕ} {sizes weights : List ℕ} → ListAccepted (jobsOf a order sizes weights) → anyAbove (topOf a) weights ≡ false
-words-pass {a} {order} {sizes} {weights} list =
-    none-above (topOf a) weights
-    (λ p h.
-    let (q, r, hq, hr, e) = offset-find sizes p (omega (arith, list .weights-fit)) in
-    let n = getD sizes q 0 in
-    let word : getD (take (n * n) (drop (offset sizes q) weights)) r 0 ≤ topOf a = list .words q r in
-    let there : getD (take (n * n) (drop (offset sizes q) weights)) r 0 ≡ getD weights p 0
-    = getD-take (n * n) (drop (offset sizes q) weights) r 0 hr ∙ getD-drop (offset sizes q) weights r 0 ∙ ap (λ (m : ℕ). getD weights m 0) (sym e) in
-    rw (← there) word)
+-- each job has words of its algebra
+above-none : (J : Jobs) → ((q p : ℕ) → Word (algebra J q) (getD (jobWeights J q) p 0)) → (m : ℕ)
+    → aboveBefore (J .algebras) (J .sizes) (J .weights) m ≡ false
+unfolding aboveBefore
+above-none J words zero = refl
+above-none J words (suc m) =
+    rw (above-none J words m) (none-above (topOf (algebra J m)) (jobWeights J m) (λ p h. words m p))
+
+pub words-pass : {J : Jobs} → ListAccepted J → jobAbove (J .algebras) (J .sizes) (J .weights) ≡ false
+words-pass {J} list = above-none J (list .words) (count J)
+
+pub numbers-pass : {J : Jobs} → ListAccepted J → anyUnknown (J .algebras) ≡ false
+numbers-pass {J} list = none-any (ltb 2) (J .algebras) (λ q h. le-ltb 2 (getD (J .algebras) q 0) (list .numbers q h))
 
 -- few jobs that passed the test of an order in range
 pub tested-small : {order : ℕ} (sizes : List ℕ) → length sizes ≤ 16 → order ≤ 32 → anyOutside order sizes ≡ false → Small sizes

@@ -1,9 +1,15 @@
-// A list of jobs: their sizes, and where each one's words begin.
+// A list of jobs: their algebras and sizes, and where each one's words begin.
 ghost use mathlib.Core.Path.{_≡_};
 ghost use Prim.Native.Nat.{_≤_};
 ghost use lib.ListN.{length};
 ghost use Rattle.job_list.specs.Jobs.{offset};
 ghost use Rattle.job_list.specs.Fits.{anyOutside, Small};
+
+mod algebras;
+
+pub use algebras::algebra_of;
+pub use algebras::any_above;
+pub use algebras::any_unknown;
 
 // Whether a job's size is outside 1 to the order.
 pub fn any_outside(order: usize, sizes: &[u16]) -> bool

@@ -54,6 +54,6 @@ unless-alike (suc k) r s e = refl
 
 pub insensitive : Insensitive
 unfolding readingOf
-insensitive sizes weights text loosened h k r =
+insensitive algebras sizes weights text loosened h k r =
     rw (le-ltb 65536 (length text) h, le-ltb 65536 (length loosened) k)
-    (unless-alike (first 0 ((not (eqb sizes 16) || not (eqb weights 16384), 18) ∷ [])) _ _ (follow-alike r 0 0 (go start)))
+    (unless-alike (first 0 ((not (eqb algebras 16) || (not (eqb sizes 16) || not (eqb weights 16384)), 18) ∷ [])) _ _ (follow-alike r 0 0 (go start)))

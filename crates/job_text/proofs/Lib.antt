@@ -7,6 +7,7 @@ pub mod Advances
 pub mod Follows
 pub mod Readings
 pub mod Insensitive
+pub mod JobsRead
 pub mod Whole
 pub mod LineTests
 pub mod Refusals

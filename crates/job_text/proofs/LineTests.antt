@@ -115,17 +115,17 @@ pub decides-length : (size : ℕ) (ts : List Token) → Decides (not (eqb (lengt
 decides-length size ts = decides-as other-length length-in-row (decides-differ (length ts) size)
 
 -- "6, 8"
-order-in : {n : ℕ} {t : Token} → OrderOutside (list (Number n) t) → Outside 1 32 n
+order-in : {n : ℕ} → OrderOutside (list (Number n)) → Outside 1 32 n
 order-in (order-outside h) = h
 
-pub decides-order : (n : ℕ) (t : Token) → Decides (outside 1 32 n) (OrderOutside (list (Number n) t))
-decides-order n t = decides-as order-outside order-in (decides-outside 1 32 n)
+pub decides-order : (n : ℕ) → Decides (outside 1 32 n) (OrderOutside (list (Number n)))
+decides-order n = decides-as order-outside order-in (decides-outside 1 32 n)
 
-size-in : {order n : ℕ} → SizeOutside order (job (Number n)) → Outside 1 order n
+size-in : {order n : ℕ} {t : Token} → SizeOutside order (job (Number n) t) → Outside 1 order n
 size-in (size-outside h) = h
 
-pub decides-size : (order n : ℕ) → Decides (outside 1 order n) (SizeOutside order (job (Number n)))
-decides-size order n = decides-as size-outside size-in (decides-outside 1 order n)
+pub decides-size : (order n : ℕ) (t : Token) → Decides (outside 1 order n) (SizeOutside order (job (Number n) t))
+decides-size order n t = decides-as size-outside size-in (decides-outside 1 order n)
 
 -- "5"
 one-in : {n : ℕ} → AboveOne Reach (Number n) → 1 < n
@@ -163,11 +163,11 @@ empty-in (closed-empty e) = e
 pub decides-empty : (jobs : ℕ) → Decides (eqb jobs 0) (JobCount jobs due.Job close)
 decides-empty jobs = record { yes = λ e. closed-empty (eqb-true jobs 0 e); no = λ e c. eqb-false jobs 0 e (empty-in c) }
 
-count-in : {jobs : ℕ} {d : Due} {n : Token} → JobCount jobs d (job n) → 16 ≤ jobs
+count-in : {jobs : ℕ} {d : Due} {n t : Token} → JobCount jobs d (job n t) → 16 ≤ jobs
 count-in (job-17 h) = h
 
-pub decides-count : (jobs : ℕ) (d : Due) (n : Token) → Decides (leb 16 jobs) (JobCount jobs d (job n))
-decides-count jobs d n = record {
+pub decides-count : (jobs : ℕ) (d : Due) (n t : Token) → Decides (leb 16 jobs) (JobCount jobs d (job n t))
+decides-count jobs d n t = record {
   yes = λ e. job-17 (leb-true 16 jobs e);
   no = λ e c. let few = leb-false 16 jobs e in let many = count-in c in omega arith;
 }

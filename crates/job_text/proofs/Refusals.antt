@@ -24,21 +24,21 @@ use Rattle.job_text.proofs.LineTests.{decides-empty, decides-count}
 
 pub before-lines-exactly : Before-lines
 unfolding lengthConditions
-before-lines-exactly sizes weights text =
-    decided (either (decides-differ sizes 16) (decides-differ weights 16384))
+before-lines-exactly algebras sizes weights text =
+    decided (either (decides-differ algebras 16) (either (decides-differ sizes 16) (decides-differ weights 16384)))
     (decided (decides-above 65536 (length text))
     no-more)
 
-numeral-of-list : {n t : Token} → FormDue due.List (list n t) → Numeral n
+numeral-of-list : {n : Token} → FormDue due.List (list n) → Numeral n
 numeral-of-list (list-begins h) = h
 
-numeral-of-job : {n : Token} → FormDue due.Job (job n) → Numeral n
+numeral-of-job : {n t : Token} → FormDue due.Job (job n t) → Numeral n
 numeral-of-job (job-begins h) = h
 
 -- one line, by what is due and its form
-module _ (order : ℕ) (a : Algebra) (size left : ℕ) (sizes weights : List ℕ) where
+module _ (order : ℕ) (a : Algebra) (size left : ℕ) (algebras sizes weights : List ℕ) where
   abbrev at : Due → Progress
-  at d = progress d order a size left sizes weights
+  at d = progress d order a size left algebras sizes weights
 
   abbrev Line : Due → Form → ℕ → Type 0
   Line d f number = Exactly (lineConditions (at d) f) number
@@ -51,49 +51,49 @@ module _ (order : ℕ) (a : Algebra) (size left : ℕ) (sizes weights : List ℕ
   unfolding lineConditions
   not-due some more other = passes some (passes more (applies other))
 
-  list-line : (n t : Token) → Line due.List (list n t) (first 0 (listTests n t))
+  list-line : (n : Token) → Line due.List (list n) (first 0 (listTests n))
   unfolding lineConditions
-  list-line (Number n) (Name b) =
+  list-line (Number n) =
       passes (elim [ ])
       (passes (elim [ ])
       (passes (λ other. other (list-begins read))
       (passes (elim [ ])
       (passes (elim [ ])
-      (decided (decides-order n (Name b))
+      (decided (decides-order n)
       (passes (elim [ ])
       (passes (elim [ ])
       (passes (elim [ ])
       no-more))))))))
-  list-line Over (Name b) = passes (elim [ ]) (passes (elim [ ]) (passes (λ other. other (list-begins over)) (applies over-order)))
-  list-line (Number n) (Number m) = not-due (elim [ ]) (elim [ ]) (elim [ ])
-  list-line (Number n) Over = not-due (elim [ ]) (elim [ ]) (elim [ ])
-  list-line (Number n) Dash = not-due (elim [ ]) (elim [ ]) (elim [ ])
-  list-line (Number n) Other = not-due (elim [ ]) (elim [ ]) (elim [ ])
-  list-line Over (Number m) = not-due (elim [ ]) (elim [ ]) (elim [ ])
-  list-line Over Over = not-due (elim [ ]) (elim [ ]) (elim [ ])
-  list-line Over Dash = not-due (elim [ ]) (elim [ ]) (elim [ ])
-  list-line Over Other = not-due (elim [ ]) (elim [ ]) (elim [ ])
-  list-line Dash t = not-due (elim [ ]) (elim [ ]) (λ f. no-dash (numeral-of-list f))
-  list-line (Name b) t = not-due (elim [ ]) (elim [ ]) (λ f. no-name (numeral-of-list f))
-  list-line Other t = not-due (elim [ ]) (elim [ ]) (λ f. no-other (numeral-of-list f))
+  list-line Over = passes (elim [ ]) (passes (elim [ ]) (passes (λ other. other (list-begins over)) (applies over-order)))
+  list-line Dash = not-due (elim [ ]) (elim [ ]) (λ f. no-dash (numeral-of-list f))
+  list-line (Name b) = not-due (elim [ ]) (elim [ ]) (λ f. no-name (numeral-of-list f))
+  list-line Other = not-due (elim [ ]) (elim [ ]) (λ f. no-other (numeral-of-list f))
 
-  job-line : (n : Token) → Line due.Job (job n) (first 0 (jobTests order (length sizes) n))
+  job-line : (n t : Token) → Line due.Job (job n t) (first 0 (jobTests order (length sizes) n t))
   unfolding lineConditions
-  job-line (Number n) =
+  job-line (Number n) (Name b) =
       passes (elim [ ])
       (passes (elim [ ])
       (passes (λ other. other (job-begins read))
       (passes (elim [ ])
       (passes (elim [ ])
       (passes (elim [ ])
-      (decided (decides-size order n)
+      (decided (decides-size order n (Name b))
       (passes (elim [ ])
-      (decided (decides-count (length sizes) due.Job (Number n))
+      (decided (decides-count (length sizes) due.Job (Number n) (Name b))
       no-more))))))))
-  job-line Over = passes (elim [ ]) (passes (elim [ ]) (passes (λ other. other (job-begins over)) (applies over-size)))
-  job-line Dash = not-due (elim [ ]) (elim [ ]) (λ f. no-dash (numeral-of-job f))
-  job-line (Name b) = not-due (elim [ ]) (elim [ ]) (λ f. no-name (numeral-of-job f))
-  job-line Other = not-due (elim [ ]) (elim [ ]) (λ f. no-other (numeral-of-job f))
+  job-line Over (Name b) = passes (elim [ ]) (passes (elim [ ]) (passes (λ other. other (job-begins over)) (applies over-size)))
+  job-line (Number n) (Number m) = not-due (elim [ ]) (elim [ ]) (elim [ ])
+  job-line (Number n) Over = not-due (elim [ ]) (elim [ ]) (elim [ ])
+  job-line (Number n) Dash = not-due (elim [ ]) (elim [ ]) (elim [ ])
+  job-line (Number n) Other = not-due (elim [ ]) (elim [ ]) (elim [ ])
+  job-line Over (Number m) = not-due (elim [ ]) (elim [ ]) (elim [ ])
+  job-line Over Over = not-due (elim [ ]) (elim [ ]) (elim [ ])
+  job-line Over Dash = not-due (elim [ ]) (elim [ ]) (elim [ ])
+  job-line Over Other = not-due (elim [ ]) (elim [ ]) (elim [ ])
+  job-line Dash t = not-due (elim [ ]) (elim [ ]) (λ f. no-dash (numeral-of-job f))
+  job-line (Name b) t = not-due (elim [ ]) (elim [ ]) (λ f. no-name (numeral-of-job f))
+  job-line Other t = not-due (elim [ ]) (elim [ ]) (λ f. no-other (numeral-of-job f))
 
   row-line : (ts : List Token) → AllLimited ts → Line due.Row (row ts) (first 0 (rowTests a size ts))
   unfolding lineConditions
@@ -143,16 +143,16 @@ module _ (order : ℕ) (a : Algebra) (size left : ℕ) (sizes weights : List ℕ
 
   line-exactly : (d : Due) (f : Form) → RowLimited f → Line d f (tests (at d) f)
   line-exactly d skipped h = skipped-line d
-  line-exactly due.List (list n t) h = list-line n t
-  line-exactly due.Job (list n t) h = not-due (elim [ ]) (elim [ ]) (elim [ ])
-  line-exactly due.Row (list n t) h = not-due (elim [ ]) (elim [ ]) (elim [ ])
-  line-exactly due.Close (list n t) h = not-due (elim [ ]) (elim [ ]) (elim [ ])
-  line-exactly due.Nothing (list n t) h = behind-end (elim [ ])
-  line-exactly due.List (job n) h = not-due (elim [ ]) (elim [ ]) (elim [ ])
-  line-exactly due.Job (job n) h = job-line n
-  line-exactly due.Row (job n) h = not-due (elim [ ]) (elim [ ]) (elim [ ])
-  line-exactly due.Close (job n) h = not-due (elim [ ]) (elim [ ]) (elim [ ])
-  line-exactly due.Nothing (job n) h = behind-end (elim [ ])
+  line-exactly due.List (list n) h = list-line n
+  line-exactly due.Job (list n) h = not-due (elim [ ]) (elim [ ]) (elim [ ])
+  line-exactly due.Row (list n) h = not-due (elim [ ]) (elim [ ]) (elim [ ])
+  line-exactly due.Close (list n) h = not-due (elim [ ]) (elim [ ]) (elim [ ])
+  line-exactly due.Nothing (list n) h = behind-end (elim [ ])
+  line-exactly due.List (job n t) h = not-due (elim [ ]) (elim [ ]) (elim [ ])
+  line-exactly due.Job (job n t) h = job-line n t
+  line-exactly due.Row (job n t) h = not-due (elim [ ]) (elim [ ]) (elim [ ])
+  line-exactly due.Close (job n t) h = not-due (elim [ ]) (elim [ ]) (elim [ ])
+  line-exactly due.Nothing (job n t) h = behind-end (elim [ ])
   line-exactly due.List (row ts) h = not-due (elim [ ]) (elim [ ]) (elim [ ])
   line-exactly due.Job (row ts) h = not-due (elim [ ]) (elim [ ]) (elim [ ])
   line-exactly due.Row (row ts) h = row-line ts h
@@ -172,7 +172,7 @@ module _ (order : ℕ) (a : Algebra) (size left : ℕ) (sizes weights : List ℕ
 pub line-refusals : Line-refusals
 unfolding lineConditions
 line-refusals p line =
-    line-exactly (p .order) (p .algebra) (p .size) (p .left) (p .sizes) (p .weights) (p .due) (formOf (parts line)) (limited (parts line))
+    line-exactly (p .order) (p .algebra) (p .size) (p .left) (p .algebras) (p .sizes) (p .weights) (p .due) (formOf (parts line)) (limited (parts line))
 
 -- after the last line
 module _ (line : ℕ) (p : Progress) where
@@ -183,7 +183,7 @@ module _ (line : ℕ) (p : Progress) where
   early due.Close h = refl
   early due.Nothing h = absurd (h after-end)
 
-  at-end : {d : Due} → AfterEnd d → ended d line p ≡ accepted (p .order) (p .algebra) (p .sizes) (p .weights)
+  at-end : {d : Due} → AfterEnd d → ended d line p ≡ accepted (p .order) (p .algebras) (p .sizes) (p .weights)
   at-end after-end = refl
 
   end-given : (d : Due) → p .due ≡ d → ByLines line p [] (ended d line p)
@@ -219,20 +219,20 @@ lines-only (line-passed {p = p} {l} r rest) = rw (line-refusals p l .only 0 r) (
 lines-only (ends-early {line} {p} h) = early line p (p .due) h
 lines-only (ends {line} {p} h) = at-end line p h
 
-module _ (sizes weights : ℕ) (text : List ℕ) where
-  text-given : ByTable sizes weights text (readingOf sizes weights text)
+module _ (algebras sizes weights : ℕ) (text : List ℕ) where
+  text-given : ByTable algebras sizes weights text (readingOf algebras sizes weights text)
   unfolding readingOf
-  text-given = by (first 0 (lengthTests sizes weights (length text))) (before-lines-exactly sizes weights text .returned)
+  text-given = by (first 0 (lengthTests algebras sizes weights (length text))) (before-lines-exactly algebras sizes weights text .returned)
     where
-      by : (k : ℕ) → Returns (lengthConditions sizes weights text) k
-          → ByTable sizes weights text (unless k (follow 0 (lines text) (go start)))
+      by : (k : ℕ) → Returns (lengthConditions algebras sizes weights text) k
+          → ByTable algebras sizes weights text (unless k (follow 0 (lines text) (go start)))
       by zero r = by-lines r (lines-given 0 start (lines text))
       by (suc k) r = before-lines r
 
-  text-only : (r : Reading) → ByTable sizes weights text r → readingOf sizes weights text ≡ r
+  text-only : (r : Reading) → ByTable algebras sizes weights text r → readingOf algebras sizes weights text ≡ r
   unfolding readingOf
-  text-only r (before-lines {k} h) = rw (before-lines-exactly sizes weights text .only (suc k) h)
-  text-only r (by-lines h t) = rw (before-lines-exactly sizes weights text .only 0 h) (lines-only t)
+  text-only r (before-lines {k} h) = rw (before-lines-exactly algebras sizes weights text .only (suc k) h)
+  text-only r (by-lines h t) = rw (before-lines-exactly algebras sizes weights text .only 0 h) (lines-only t)
 
 pub text-refusals : Text-refusals
-text-refusals sizes weights text = record { given = text-given sizes weights text; only = text-only sizes weights text }
+text-refusals algebras sizes weights text = record { given = text-given algebras sizes weights text; only = text-only algebras sizes weights text }

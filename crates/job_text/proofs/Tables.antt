@@ -1,15 +1,24 @@
 -- The number that a table of tests gives, and each kind of test from what a branch tells.
 use Prim.Native.Nat.{ℕ, _≤_, _<_}
-use mathlib.Core.Path.{_≡_, sym, ap, _∙_}
-use mathlib.Core.List.{List}
+use mathlib.Core.Path.{_≡_, refl, sym, ap, _∙_}
+use mathlib.Core.List.{List, [], _∷_}
 use mathlib.Core.Bool.{Bool, true, false, not, _||_}
 use borrow.Author.Tests.{lt-ltb, le-ltb, le-leb, lt-leb, eq-eqb, ne-eqb}
-use Rattle.refusals.specs.Tests.{outside}
-use Rattle.refusals.proofs.First.{First, answers, below, above, within}
+use Rattle.refusals.specs.Tests.{first, outside}
+use Rattle.refusals.proofs.First.{First, hit, skip, clear, answers, below, above, within}
 use Rattle.job_text.specs.inner.Tested.{Tested}
 
 pub tested : {ts : List (Bool × ℕ)} {number : ℕ} → First 0 ts number → Tested ts number
 tested f = record { number-is = sym (answers f) }
+
+-- the rest of a table, whose tests a function made
+each-first : (ts : List (Bool × ℕ)) → First 0 ts (first 0 ts)
+each-first [] = clear
+each-first ((true, k) ∷ ts) = hit refl
+each-first ((false, k) ∷ ts) = skip refl (each-first ts)
+
+pub further : {ts : List (Bool × ℕ)} {number : ℕ} → Tested ts number → First 0 ts number
+further {ts} t = rw (t .number-is) (each-first ts)
 
 pub told-not : (test answer known : Bool) → answer ≡ test → not answer ≡ known → not test ≡ known
 told-not test answer known e f = sym (ap not e) ∙ f

@@ -4,7 +4,7 @@ use mathlib.Core.Path.{_≡_, refl, ap, _∙_}
 use mathlib.Core.List.{List, [], _∷_}
 use lib.ListN.{replicate}
 use Rattle.job_form.specs.Buffer.{padded}
-use Rattle.job_text.specs.inner.States.{Cleared}
+use Rattle.job_text.specs.inner.States.{Cleared, AllCleared}
 
 zeros : (n : ℕ) → replicate n 0 ≡ padded n []
 zeros zero = refl
@@ -12,3 +12,7 @@ zeros (suc n) = ap (λ (l : List ℕ). 0 ∷ l) (zeros n)
 
 pub zeros-cleared : {n : ℕ} {l : List ℕ} → l ≡ replicate n 0 → Cleared n l
 zeros-cleared {n} e = record { zeros = e ∙ zeros n }
+
+pub all-cleared : {l m n : ℕ} {algebras sizes weights : List ℕ} → Cleared l algebras → Cleared m sizes → Cleared n weights
+    → AllCleared l m n algebras sizes weights
+all-cleared e f g = record { algebras-zero = e; sizes-zero = f; weights-zero = g }

@@ -1,4 +1,4 @@
--- Document 01, "Job text and bench program" and row Text of "Where each call turns back": what one line does.
+-- Document 01, "Job text and bench program" and row Text of "Where each call turns back", with K8's forms: what one line does.
 use Prim.Native.Nat.{ℕ, zero, suc, _-_}
 use mathlib.Core.List.{List, [], _∷_, _++_, map}
 use mathlib.Core.Bool.{Bool, cond, not}
@@ -6,6 +6,7 @@ use lib.ListN.{length}
 use lib.Dec.{eqb, leb}
 use Rattle.memory.specs.Lists.{any}
 use Rattle.semiring.specs.Algebra.{topOf}
+use Rattle.semiring.specs.Named.{numberOf}
 use Rattle.semiring.specs.declared.Algebra.{Algebra}
 use Rattle.semiring.specs.declared.Algebra.the-variants.{Reach}
 use Rattle.refusals.specs.Tests.{first, outside}
@@ -17,40 +18,46 @@ use Rattle.job_form.specs.Forms.{Form, list, job, row, close, skipped, unknown}
 use Rattle.job_text.specs.declared.state.Due.{Due}
 use Rattle.job_text.specs.declared.state.Due.the-variants as due
 
--- What has been read so far: "N, algebra, Q, 16 sizes and 16,384 weights", where Q is the length of `sizes`. Of the last job, which has
--- `size` points, `left` rows are still due.
+-- What has been read so far: "N, .. Q, 16 sizes and 16,384 weights", where Q is the length of `sizes`; K8: "16 algebras too", here by
+-- number. Of the last job, which has `size` points in `algebra`, `left` rows are still due.
 pub record Progress : Type 0 where
   pub due : Due
   pub order : ℕ
   pub algebra : Algebra
   pub size : ℕ
   pub left : ℕ
+  pub algebras : List ℕ
   pub sizes : List ℕ
   pub weights : List ℕ
 
-abbrev pub progress : Due → ℕ → Algebra → ℕ → ℕ → List ℕ → List ℕ → Progress
-progress d o a n l ss ws = record { due = d; order = o; algebra = a; size = n; left = l; sizes = ss; weights = ws }
+abbrev pub progress : Due → ℕ → Algebra → ℕ → ℕ → List ℕ → List ℕ → List ℕ → Progress
+progress d o a n l bs ss ws = record { due = d; order = o; algebra = a; size = n; left = l; algebras = bs; sizes = ss; weights = ws }
 
 abbrev pub start : Progress
-start = progress due.List 0 Reach 0 0 [] []
+start = progress due.List 0 Reach 0 0 [] [] []
 
 -- "14 not the form due; 15 a numeral over 5 digits or above 65535, or `-` in reach; 16 row length; 6, 8, 5; 7 a list closed empty or a 17th
 -- job": the tests of each form that is due, with their numbers.
-abbrev pub listTests : Token → Token → List (Bool × ℕ)
-listTests n a =
+abbrev pub listTests : Token → List (Bool × ℕ)
+listTests n =
     (not (isNumeral n), 14)
-    ∷ (not (isName a), 14)
     ∷ (isOver n, 15)
     ∷ (outside 1 32 (valueOf n), 6)
     ∷ []
 
-abbrev pub jobTests : ℕ → ℕ → Token → List (Bool × ℕ)
-jobTests order jobs n =
-    (not (isNumeral n), 14)
-    ∷ (isOver n, 15)
-    ∷ (outside 1 order (valueOf n), 8)
+-- Of a job's line the last two stand apart, as the code tests them.
+abbrev pub rangeTests : ℕ → ℕ → Token → List (Bool × ℕ)
+rangeTests order jobs n =
+    (outside 1 order (valueOf n), 8)
     ∷ (leb 16 jobs, 7)
     ∷ []
+
+abbrev pub jobTests : ℕ → ℕ → Token → Token → List (Bool × ℕ)
+jobTests order jobs n a =
+    (not (isNumeral n), 14)
+    ∷ (not (isName a), 14)
+    ∷ (isOver n, 15)
+    ∷ rangeTests order jobs n
 
 abbrev pub rowTests : Algebra → ℕ → List Token → List (Bool × ℕ)
 rowTests a size ts =
@@ -77,14 +84,14 @@ forDue d l j r c = byDue l j r c 17 d
 
 -- The number of a line's refusal, 0 for none.
 abbrev pub tests : Progress → Form → ℕ
-tests p (list n a) = forDue (p .due) (first 0 (listTests n a)) 14 14 14
-tests p (job n) = forDue (p .due) 14 (first 0 (jobTests (p .order) (length (p .sizes)) n)) 14 14
+tests p (list n) = forDue (p .due) (first 0 (listTests n)) 14 14 14
+tests p (job n a) = forDue (p .due) 14 (first 0 (jobTests (p .order) (length (p .sizes)) n a)) 14 14
 tests p (row ts) = forDue (p .due) 14 14 (first 0 (rowTests (p .algebra) (p .size) ts)) 14
 tests p close = forDue (p .due) 14 (first 0 (listEndTests (length (p .sizes)))) 14 0
 tests p unknown = forDue (p .due) 14 14 14 14
 tests p skipped = 0
 
--- "Forms in order: `(list N A` ..; per job `(job n`, then n lines `(row w ..)` of n words, then `)`; at the end `)`."
+-- "Forms in order: .. per job .., then n lines `(row w ..)` of n words, then `)`; at the end `)`." K8: "`(list N` and `(job n A`".
 abbrev pub dueAfterRow : ℕ → Due
 dueAfterRow left = cond (leb left 1) due.Close due.Row
 
@@ -93,12 +100,14 @@ dueAfterClose = byDue due.Nothing due.Nothing due.Nothing due.Job due.Nothing
 
 -- What has been read after a form that is not refused.
 abbrev pub after : Progress → Form → Progress
-after p (list n a) = progress due.Job (valueOf n) (algebraNamed a) 0 0 (p .sizes) (p .weights)
-after p (job n) = progress due.Row (p .order) (p .algebra) (valueOf n) (valueOf n) (p .sizes ++ (valueOf n ∷ [])) (p .weights)
+after p (list n) = progress due.Job (valueOf n) (p .algebra) 0 0 (p .algebras) (p .sizes) (p .weights)
+after p (job n a) =
+    progress due.Row (p .order) (algebraNamed a) (valueOf n) (valueOf n) (p .algebras ++ (numberOf (algebraNamed a) ∷ []))
+    (p .sizes ++ (valueOf n ∷ [])) (p .weights)
 after p (row ts) =
-    progress (dueAfterRow (p .left)) (p .order) (p .algebra) (p .size) (p .left - 1) (p .sizes)
+    progress (dueAfterRow (p .left)) (p .order) (p .algebra) (p .size) (p .left - 1) (p .algebras) (p .sizes)
     (p .weights ++ map (wordOf (p .algebra)) ts)
-after p close = progress (dueAfterClose (p .due)) (p .order) (p .algebra) (p .size) (p .left) (p .sizes) (p .weights)
+after p close = progress (dueAfterClose (p .due)) (p .order) (p .algebra) (p .size) (p .left) (p .algebras) (p .sizes) (p .weights)
 after p unknown = p
 after p skipped = p
 

@@ -2,7 +2,6 @@
 ghost use mathlib.Core.Path.{_≡_};
 ghost use Rattle.job_text.specs.declared.answer.Read.the-variants.{Refused};
 ghost use Rattle.job_text.specs.Reading.{refusal};
-use semiring::Algebra;
 
 // Why and on which line the reader turned back.
 pub struct Refusal {
@@ -12,11 +11,7 @@ pub struct Refusal {
 
 // The list that was read, or the refusal.
 pub enum Read {
-    List {
-        order: u16,
-        algebra: Algebra,
-        jobs: u16,
-    },
+    List { order: u16, jobs: u16 },
     Refused(Refusal),
 }
 

@@ -1,11 +1,11 @@
-// The reader of job texts: line by line to an order, an algebra, the jobs' sizes and their weights.
+// The reader of job texts: line by line to an order, the jobs' algebras, their sizes and their weights.
 ghost use mathlib.Core.Path.{_≡_};
 ghost use Prim.Native.Nat.{_≤_};
 ghost use lib.ListN.{length};
 ghost use Rattle.text.specs.Pieces.{lines};
 ghost use Rattle.job_text.specs.Steps.{go, start};
 ghost use Rattle.job_text.specs.Reading.{follow, ReadInto};
-ghost use Rattle.job_text.specs.inner.States.{stateOf, Cleared, LengthsTested, Ended, Followed, Owed};
+ghost use Rattle.job_text.specs.inner.States.{stateOf, AllCleared, LengthsTested, Ended, Followed, Owed};
 
 mod answer;
 mod buffers;
@@ -18,7 +18,7 @@ mod steps;
 pub use answer::Read;
 pub use answer::Refusal;
 use answer::refused;
-use buffers::clear;
+use buffers::clear_all;
 use semiring::Algebra;
 use state::Due;
 use state::Next;
@@ -32,8 +32,8 @@ fn beginning() -> State
     State {
         due: Due::List,
         order: 0,
-        algebra: Algebra::Reach,
         jobs: 0,
+        algebra: Algebra::Reach,
         size: 0,
         left: 0,
         at: 0,
@@ -45,7 +45,6 @@ fn finish(s: State, line: u32) -> Read
     ensures { λ r. ⌜ Ended s line r ⌝ }
 {
     let due = s.due;
-    let algebra = s.algebra;
     match due {
         Due::List => refused(17, line),
         Due::Job => refused(17, line),
@@ -53,18 +52,17 @@ fn finish(s: State, line: u32) -> Read
         Due::Close => refused(17, line),
         Due::Nothing => Read::List {
             order: s.order,
-            algebra,
             jobs: s.jobs,
         },
     }
 }
 
-// Reads the lines into two buffers of zeros. A refusal leaves what was read before it.
-fn read_lines(text: &[u8], sizes: &mut [u16], weights: &mut [u16]) -> Read
+// Reads the lines into three buffers of zeros. A refusal leaves what was read before it.
+fn read_lines(text: &[u8], algebras: &mut [u16], sizes: &mut [u16], weights: &mut [u16]) -> Read
     requires { ⌜ length (now text) ≤ 65536 ⌝ }
-    requires { ⌜ Cleared (length (now sizes)) (now sizes) ⌝ }
-    requires { ⌜ Cleared (length (now weights)) (now weights) ⌝ }
-    ensures { λ r. ⌜ Followed (follow 0 (lines (now (text .entry))) (go start)) r (now (sizes .exit)) (now (weights .exit)) ⌝ }
+    requires { ⌜ AllCleared (length (now algebras)) (length (now sizes)) (length (now weights)) (now algebras) (now sizes) (now weights) ⌝ }
+    ensures { λ r. ⌜ Followed (follow 0 (lines (now (text .entry))) (go start)) r
+        (now (algebras .exit)) (now (sizes .exit)) (now (weights .exit)) ⌝ }
 {
     let mut s = beginning();
     let mut from = 0;
@@ -72,7 +70,7 @@ fn read_lines(text: &[u8], sizes: &mut [u16], weights: &mut [u16]) -> Read
     while from < text.len() {
         let end = until(text, from, b'\n');
         line += 1;
-        let next = advance(s, &text[from..end], sizes, weights);
+        let next = advance(s, &text[from..end], algebras, sizes, weights);
         match next {
             Next::On(after) => {
                 s = after;
@@ -86,37 +84,30 @@ fn read_lines(text: &[u8], sizes: &mut [u16], weights: &mut [u16]) -> Read
     finish(s, line)
 }
 
-// Reads a text within the limit into two buffers of zeros. A refusal leaves both of them 0.
-fn read_within(text: &[u8], sizes: &mut [u16], weights: &mut [u16]) -> Read
+// Reads a text within the limit into three buffers of zeros. A refusal leaves all of them 0.
+fn read_within(text: &[u8], algebras: &mut [u16], sizes: &mut [u16], weights: &mut [u16]) -> Read
     requires { ⌜ length (now text) ≤ 65536 ⌝ }
-    requires { ⌜ Cleared (length (now sizes)) (now sizes) ⌝ }
-    requires { ⌜ Cleared (length (now weights)) (now weights) ⌝ }
-    ensures { λ r. ⌜ Owed (length (now (sizes .entry))) (length (now (weights .entry)))
-        (follow 0 (lines (now (text .entry))) (go start)) r (now (sizes .exit)) (now (weights .exit)) ⌝ }
+    requires { ⌜ AllCleared (length (now algebras)) (length (now sizes)) (length (now weights)) (now algebras) (now sizes) (now weights) ⌝ }
+    ensures { λ r. ⌜ Owed (length (now (algebras .entry))) (length (now (sizes .entry))) (length (now (weights .entry)))
+        (follow 0 (lines (now (text .entry))) (go start)) r (now (algebras .exit)) (now (sizes .exit)) (now (weights .exit)) ⌝ }
 {
-    let answer = read_lines(text, sizes, weights);
+    let answer = read_lines(text, algebras, sizes, weights);
     match answer {
-        Read::List {
-            order,
-            algebra,
-            jobs,
-        } => Read::List {
-            order,
-            algebra,
-            jobs,
-        },
+        Read::List { order, jobs } => Read::List { order, jobs },
         Read::Refused(why) => {
-            clear(sizes);
-            clear(weights);
+            clear_all(algebras, sizes, weights);
             Read::Refused(why)
         }
     }
 }
 
 // The number of the tests before any line.
-fn length_tests(sizes: usize, weights: usize, bytes: usize) -> u16
-    ensures { λ r. ⌜ LengthsTested sizes weights bytes r ⌝ }
+fn length_tests(algebras: usize, sizes: usize, weights: usize, bytes: usize) -> u16
+    ensures { λ r. ⌜ LengthsTested algebras sizes weights bytes r ⌝ }
 {
+    if algebras != 16 {
+        return 18;
+    }
     if sizes != 16 {
         return 18;
     }
@@ -129,16 +120,15 @@ fn length_tests(sizes: usize, weights: usize, bytes: usize) -> u16
     0
 }
 
-// Reads a job text: its sizes and weights into the two buffers, unused words 0. A refusal leaves both buffers 0.
-pub fn read(text: &[u8], sizes: &mut [u16], weights: &mut [u16]) -> Read
-    ensures { λ r. ⌜ ReadInto (length (now (sizes .entry))) (length (now (weights .entry))) (now (text .entry)) r
-        (now (sizes .exit)) (now (weights .exit)) ⌝ }
+// Reads a job text: its algebras by number, its sizes and its weights into the three buffers, unused words 0. A refusal leaves all three 0.
+pub fn read(text: &[u8], algebras: &mut [u16], sizes: &mut [u16], weights: &mut [u16]) -> Read
+    ensures { λ r. ⌜ ReadInto (length (now (algebras .entry))) (length (now (sizes .entry))) (length (now (weights .entry))) (now (text .entry)) r
+        (now (algebras .exit)) (now (sizes .exit)) (now (weights .exit)) ⌝ }
 {
-    let number = length_tests(sizes.len(), weights.len(), text.len());
-    clear(sizes);
-    clear(weights);
+    let number = length_tests(algebras.len(), sizes.len(), weights.len(), text.len());
+    clear_all(algebras, sizes, weights);
     if number != 0 {
         return refused(number, 0);
     }
-    read_within(text, sizes, weights)
+    read_within(text, algebras, sizes, weights)
 }

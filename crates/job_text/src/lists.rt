@@ -10,13 +10,10 @@ use crate::state::State;
 use crate::state::for_due;
 use job_form::Token;
 
-fn list_tests(order: Token, algebra: Token) -> u16
-    ensures { λ r. ⌜ Tested (listTests order algebra) r ⌝ }
+fn list_tests(order: Token) -> u16
+    ensures { λ r. ⌜ Tested (listTests order) r ⌝ }
 {
     if !order.is_numeral() {
-        return 14;
-    }
-    if !algebra.is_name() {
         return 14;
     }
     if order.is_over() {
@@ -32,19 +29,20 @@ fn list_tests(order: Token, algebra: Token) -> u16
     0
 }
 
-pub fn list_step(s: State, order: Token, algebra: Token) -> Next
-    ensures { λ r. ⌜ Stepped s (list order algebra) r ⌝ }
+pub fn list_step(s: State, order: Token) -> Next
+    ensures { λ r. ⌜ Stepped s (list order) r ⌝ }
 {
     let due = s.due;
-    let number = for_due(due, list_tests(order, algebra), 14, 14, 14);
+    let number = for_due(due, list_tests(order), 14, 14, 14);
     if number != 0 {
         return Next::Stop(number);
     }
+    let algebra = s.algebra;
     Next::On(State {
         due: Due::Job,
         order: order.value(),
-        algebra: algebra.algebra(),
         jobs: s.jobs,
+        algebra,
         size: 0,
         left: 0,
         at: s.at,
@@ -84,8 +82,8 @@ pub fn close_step(s: State) -> Next
     Next::On(State {
         due: due_after_close(due),
         order: s.order,
-        algebra,
         jobs: s.jobs,
+        algebra,
         size: s.size,
         left: s.left,
         at: s.at,

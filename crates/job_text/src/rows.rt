@@ -56,8 +56,8 @@ pub fn row_step(s: State, found: Row) -> Next
     Next::On(State {
         due: due_after_row(s.left),
         order: s.order,
-        algebra,
         jobs: s.jobs,
+        algebra,
         size: s.size,
         left: one_less(s.left),
         at: found.at,

@@ -20,9 +20,9 @@ pub enum Due {
 pub struct State {
     pub due: Due,
     pub order: u16,
-    pub algebra: Algebra,
     pub jobs: u16,
-    // Of the last job: its size, and how many of its rows are still due.
+    // Of the last job: its algebra, its size, and how many of its rows are still due.
+    pub algebra: Algebra,
     pub size: u16,
     pub left: u16,
     // Where the next word goes.

@@ -22,18 +22,25 @@ fn unknown_step(s: State) -> Next
 }
 
 // The step of a line, with the buffers after it where it is accepted.
-pub fn advance(s: State, line: &[u8], sizes: &mut [u16], weights: &mut [u16]) -> Next
-    ensures { λ r. ⌜ Advanced (now (line .entry)) s (now (sizes .entry)) (now (weights .entry)) r (now (sizes .exit)) (now (weights .exit)) ⌝ }
+pub fn advance(
+    s: State,
+    line: &[u8],
+    algebras: &mut [u16],
+    sizes: &mut [u16],
+    weights: &mut [u16],
+) -> Next
+    ensures { λ r. ⌜ Advanced (now (line .entry)) s (now (algebras .entry)) (now (sizes .entry)) (now (weights .entry)) r
+        (now (algebras .exit)) (now (sizes .exit)) (now (weights .exit)) ⌝ }
 {
     let algebra = s.algebra;
     let at = s.at;
     let said = read_line(line);
     match said {
-        Line::List {
-            order,
+        Line::List { order } => list_step(s, order),
+        Line::Job {
+            size,
             algebra: name,
-        } => list_step(s, order, name),
-        Line::Job { size } => job_step(s, size, sizes),
+        } => job_step(s, size, name, algebras, sizes),
         Line::Row { from } => row_step(s, read_row(line, from, algebra, at, weights)),
         Line::EmptyRow => row_step(
             s,

@@ -2,9 +2,10 @@
 use mathlib.Core.Path.{refl}
 use Rattle.memory.specs.Lists.{listOf, any}
 use Rattle.closure.specs.Elimination.{passes, closure, eliminated}
-use Rattle.job_list.specs.Jobs.{offset}
+use Rattle.job_list.specs.Jobs.{offset, algebraOf}
+use Rattle.job_list.specs.Fits.{aboveBefore}
 use Rattle.systolic.specs.Tick.{cellAfter, planesAfter, emitted, emittedRows, ticked, ticks}
-use Rattle.systolic.specs.Run.{ranOn, refusedRun, ranBy}
+use Rattle.systolic.specs.Run.{ranOn, refusedRun, ran}
 use Rattle.systolic.specs.claims.Demand.{runs}
 use Rattle.text.specs.Pieces.{cut, lines, placed, parts}
 use Rattle.text.specs.Numeral.{decimal, digits, numeral}
@@ -17,7 +18,7 @@ use Rattle.sheet.specs.Lines.{sheet}
 use Rattle.sheet.specs.claims.Cards.{links3, reach3, long3, steep3, last3, BenchCards}
 
 pub cards : BenchCards
-unfolding listOf any passes closure eliminated offset cellAfter planesAfter emitted emittedRows ticked ticks ranOn refusedRun ranBy runs cut
+unfolding listOf any passes closure eliminated offset algebraOf aboveBefore cellAfter planesAfter emitted emittedRows ticked ticks ranOn refusedRun ran runs cut
     lines placed parts digits decimal name tokenOf words opening headOf formOf step follow readingOf joined numeral sheet links3 reach3
     long3 steep3 last3
 cards = record {
@@ -36,5 +37,6 @@ cards = record {
   B8-after = refl;
   B8-ticks = refl;
   B9 = refl;
+  mixed = refl;
   refusal = refl;
 }

@@ -7,10 +7,8 @@ use mathlib.Core.List.{List, [], _∷_, _++_}
 use lib.ListN.{length, replicate, length-replicate}
 use native.Mathlib.Decide.{decLt}
 use borrow.Author.Tests.{le-ltb}
-use Rattle.semiring.specs.declared.Algebra.{Algebra}
-use Rattle.semiring.specs.Named.{numberOf}
 use Rattle.closure.proofs.Demand.{closure-best}
-use Rattle.job_list.specs.Jobs.{Jobs, count, size, wordsOf, jobWeights, jobsOf, Entry}
+use Rattle.job_list.specs.Jobs.{Jobs, count, size, algebra, wordsOf, jobWeights, jobsOf, Entry}
 use Rattle.systolic.specs.State.{stateLength, scratchLength, total}
 use Rattle.systolic.specs.Run.{Ran}
 use Rattle.systolic.specs.claims.Demand.{Runs, runs}
@@ -18,6 +16,7 @@ use Rattle.systolic.specs.Tick.{leaves}
 use Rattle.systolic.proofs.Demand.{start-claim}
 use Rattle.systolic.proofs.Corollaries.{past-word}
 use Rattle.job_list.specs.Fits.{ListAccepted}
+use Rattle.job_list.proofs.Fits.{algebra-named}
 use Rattle.job_text.proofs.Whole.{whole}
 use Rattle.text.specs.Joined.{joined}
 use Rattle.text.proofs.Joined.{joined-same}
@@ -25,7 +24,7 @@ use Rattle.sheet.specs.Lines.{Words, jobsLine, entryLine, rowLines, shee
 use Rattle.sheet.specs.Sheet.{startedState, wholeRun, resultWords, printed}
 use Rattle.sheet.specs.claims.Demand.{closureWords, Demand-sheet}
 use Rattle.sheet.proofs.Rows.{row-empty, row-line}
-use Rattle.sheet.proofs.Run.{named, begun-tests, whole-made}
+use Rattle.sheet.proofs.Run.{begun-tests, whole-made}
 
 -- A sheet reads no words but those of the jobs' entries.
 module _ (J : Jobs) (word word′ : Words) (same : (q i k : ℕ) → Entry J q i k → word q i k ≡ word′ q i k) where
@@ -48,9 +47,9 @@ module _ (J : Jobs) (word word′ : Words) (same : (q i k : ℕ) → Entry J q i
       (λ q hq. joined-same (size J q) (entryLine J word t i q) (entryLine J word′ t i q) (λ k hk. entry-same t i q k hq hk)))))
 
 -- The whole run is a list of one run.
-module _ {a : Algebra} {order : ℕ} {sizes weights : List ℕ} (list : ListAccepted (jobsOf a order sizes weights)) where
+module _ {algebras : List ℕ} {order : ℕ} {sizes weights : List ℕ} (list : ListAccepted (jobsOf algebras order sizes weights)) where
   abbrev J : Jobs
-  J = jobsOf a order sizes weights
+  J = jobsOf algebras order sizes weights
 
   -- every entry leaves before the end
   pub tick-within : {q i k : ℕ} → Entry J q i k → leaves J q i k < total order (length sizes)
@@ -65,30 +64,31 @@ module _ {a : Algebra} {order : ℕ} {sizes weights : List ℕ} (list : ListAcce
 
   abbrev one : Runs
   one =
-      runs sizes weights (record { allowance = 65535; scratch = replicate (scratchLength order) 0 } ∷ [])
-      (startedState a order sizes weights) zeros
+      runs algebras sizes weights (record { allowance = 65535; scratch = replicate (scratchLength order) 0 } ∷ [])
+      (startedState algebras order sizes weights) zeros
 
-  word-is : (q i k : ℕ) → Entry J q i k → resultWords J (wholeRun a order sizes weights) q i k ≡ closureWords J q i k
+  word-is : (q i k : ℕ) → Entry J q i k → resultWords J (wholeRun algebras order sizes weights) q i k ≡ closureWords J q i k
   unfolding runs
   word-is q i k at =
       past-word {J = J} {after = one}
-      (start-claim (numberOf a) order sizes weights (replicate (stateLength order) 0) (begun-tests list) list (named a)
+      (start-claim algebras order sizes weights (replicate (stateLength order) 0) (begun-tests list)
       (record { allowance = 65535; scratch = replicate (scratchLength order) 0 } ∷ []) zeros)
       (length-replicate {A = ℕ} (wordsOf sizes) 0)
       (record { job = at .job; row = at .row; column = at .column; tick = omega (arith, tick-within at, whole-made list) })
 
 pub demand-sheet : Demand-sheet
-demand-sheet text order a sizes weights e =
-    let list : ListAccepted (jobsOf a order sizes weights) = whole 16 16384 text order a sizes weights e in
-    let J : Jobs = jobsOf a order sizes weights in
-    let after : Ran = wholeRun a order sizes weights in
+demand-sheet text order algebras sizes weights e =
+    let list : ListAccepted (jobsOf algebras order sizes weights) = whole 16 16 16384 text order algebras sizes weights e in
+    let J : Jobs = jobsOf algebras order sizes weights in
+    let after : Ran = wholeRun algebras order sizes weights in
     record {
+      named = algebra-named list;
       words =
           ap printed e
           ∙ sheet-same J (resultWords J after) (closureWords J) (word-is list) (after .made)
           ∙ ap (sheet J (closureWords J)) (whole-made list);
       best = λ q i k at.
-          closure-best a (size J q) (jobWeights J q) (list .words q) (at .row) (at .column);
+          closure-best (algebra J q) (size J q) (jobWeights J q) (list .words q) (at .row) (at .column);
       tick = λ q i k at. tick-within list at;
       line = λ q i k at. row-line J (closureWords J) (leaves J q i k) i (list .fits) at refl;
       nothing = λ t i none. row-empty J (closureWords J) t i none;

@@ -12,7 +12,7 @@ use borrow.Author.Tests.{lt-ltb, le-ltb, le-leb, lt-leb}
 use Rattle.semiring.specs.declared.Algebra.{Algebra}
 use Rattle.memory.proofs.Part.{part-length, part-word}
 use Rattle.job_list.specs.Fits.{ListFits, Small}
-use Rattle.job_list.specs.Jobs.{offset, place, jobsOf}
+use Rattle.job_list.specs.Jobs.{offset, algebraOf, place, jobsOf}
 use Rattle.job_list.proofs.Places.{part-within}
 use Rattle.job_list.proofs.Fits.{area-fits, fits-small}
 use Rattle.text.specs.Joined.{joined}
@@ -55,22 +55,25 @@ module _ {l : Leaving} {part : List ℕ} {i : ℕ} (asked : LeavingFits l part �
     bytes-room = omega (arith, place-within, asked .0 .part-fits, area-fits (asked .0 .size))
 
 -- The lines of tick t, by the job and the sum that the code divides out of it.
-module _ {a : Algebra} {order : ℕ} {sizes results : List ℕ} {t : ℕ} (asked : Printable a order sizes results × (t < 65535)) where
-  list : ListFits (jobsOf a order sizes [])
+module _ {algebras : List ℕ} {order : ℕ} {sizes results : List ℕ} {t : ℕ} (asked : Printable algebras order sizes results × (t < 65535)) where
+  list : ListFits (jobsOf algebras order sizes [])
   list = asked .0 .list
 
   -- the words of the jobs
   abbrev word : Words
-  word q i k = getD results (place (jobsOf a order sizes []) q i k) 0
+  word q i k = getD results (place (jobsOf algebras order sizes []) q i k) 0
 
-  pub tick-early : (page : List ℕ) (at : ℕ) → t + 1 < 4 * order → Put page at (tickLines a order sizes results t) page at
+  pub tick-early : (page : List ℕ) (at : ℕ) → t + 1 < 4 * order → Put page at (tickLines algebras order sizes results t) page at
   unfolding tickLines
-  tick-early page at h = put-as put-none (sym (lines-early (jobsOf a order sizes []) word list t h))
+  tick-early page at h = put-as put-none (sym (lines-early (jobsOf algebras order sizes []) word list t h))
 
   -- of a job that the list has
   module _ {job : ℕ} (now : job < length sizes) where
     size-most : getD sizes job 0 ≤ 32
     size-most = let (least, most) = list .sizes-fit job now in omega (arith, list .ranged .most)
+
+    pub algebra-there : job < length algebras
+    algebra-there = omega (arith, list .algebras-fit)
 
     pub sizes-ready : (job ≤ length sizes) × Small sizes
     sizes-ready = (omega arith, fits-small list)
@@ -103,10 +106,10 @@ module _ {a : Algebra} {order : ℕ} {sizes results : List ℕ} {t : ℕ} (asked
     tick-is : t ≡ 4 * order * job + 4 * order - 1 + sum
     tick-is = omega (arith, list .ranged .least, div-add-mod since (4 * order))
 
-    pub tick-late : (page : List ℕ) (at : ℕ) → length sizes ≤ job → Put page at (tickLines a order sizes results t) page at
+    pub tick-late : (page : List ℕ) (at : ℕ) → length sizes ≤ job → Put page at (tickLines algebras order sizes results t) page at
     unfolding tickLines
     tick-late page at late =
-        put-as put-none (sym (lines-late (jobsOf a order sizes []) word list t job sum sum-below tick-is late))
+        put-as put-none (sym (lines-late (jobsOf algebras order sizes []) word list t job sum sum-below tick-is late))
 
     abbrev size : ℕ
     size = getD sizes job 0
@@ -135,8 +138,10 @@ module _ {a : Algebra} {order : ℕ} {sizes results : List ℕ} {t : ℕ} (asked
           (part-word start (size * size) results (end-within now isStart) (i * size + k) (digits-lt hi hk)
           ∙ ap (λ (at : ℕ). getD results (at + (i * size + k)) 0) isStart)
 
-      pub tick-printed : (page : List ℕ) (at : ℕ) (page′ : List ℕ) (next : ℕ)
-          → Put page at (joined size (leavingLine a leaving part)) page′ next → Put page at (tickLines a order sizes results t) page′ next
+      pub tick-printed : {a : Algebra} → a ≡ algebraOf algebras job → (page : List ℕ) (at : ℕ) (page′ : List ℕ) (next : ℕ)
+          → Put page at (joined size (leavingLine a leaving part)) page′ next → Put page at (tickLines algebras order sizes results t) page′ next
       unfolding tickLines
-      tick-printed page at page′ next p =
-          put-as p (sym (lines-now (jobsOf a order sizes []) word list t job sum sum-below tick-is now part part-is))
+      tick-printed isAlgebra page at page′ next p =
+          put-as p
+          (ap (λ (b : Algebra). joined size (leavingLine b leaving part)) isAlgebra
+          ∙ sym (lines-now (jobsOf algebras order sizes []) word list t job sum sum-below tick-is now part part-is))

@@ -7,14 +7,13 @@ use lib.ListN.{length, take}
 use lib.Seq.{length-take-le}
 use mir.Syntax.{w64}
 use mir.Val.{Fits}
-use Rattle.semiring.specs.declared.Algebra.{Algebra}
 use Rattle.job_list.specs.Jobs.{jobsOf}
 use Rattle.job_list.specs.Fits.{ListAccepted}
 use Rattle.job_list.proofs.Fits.{area-fits, fits-small, words-most}
 use Rattle.systolic.specs.State.{stateLength, scratchLength}
 use Rattle.sheet.specs.inner.Memory.{RunMemory}
 
-module _ (a : Algebra) (order : ℕ) (sizes weights : List ℕ) (list : ListAccepted (jobsOf a order sizes weights)) where
+module _ (algebras : List ℕ) (order : ℕ) (sizes weights : List ℕ) (list : ListAccepted (jobsOf algebras order sizes weights)) where
   area-most : order * order ≤ 1024
   area-most = area-fits (list .fits .ranged .most)
 

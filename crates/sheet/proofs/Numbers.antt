@@ -12,7 +12,7 @@ use Rattle.semiring.specs.Algebra.{topOf}
 use Rattle.semiring.specs.declared.Algebra.{Algebra}
 use Rattle.semiring.specs.declared.Algebra.the-variants.{Reach, Distance, Steepest}
 use Rattle.closure.proofs.Equations.{closure-word}
-use Rattle.job_list.specs.Jobs.{Jobs, size, jobWeights, jobsOf}
+use Rattle.job_list.specs.Jobs.{Jobs, size, algebra, jobWeights, jobsOf}
 use Rattle.systolic.specs.State.{total}
 use Rattle.systolic.specs.Tick.{leaves}
 use Rattle.systolic.proofs.Totals.{total-most}
@@ -39,9 +39,9 @@ due-most due.Close hl hj hr hc = hc
 due-most due.Nothing hl hj hr hc = omega arith
 
 tests-most : (p : Progress) (f : Form) → tests p f ≤ 18
-tests-most p (list n a) = due-most (p .due) (first-most 18 (listTests n a) refl) (omega arith) (omega arith) (omega arith)
-tests-most p (job n) =
-    due-most (p .due) (omega arith) (first-most 18 (jobTests (p .order) (length (p .sizes)) n) refl) (omega arith) (omega arith)
+tests-most p (list n) = due-most (p .due) (first-most 18 (listTests n) refl) (omega arith) (omega arith) (omega arith)
+tests-most p (job n a) =
+    due-most (p .due) (omega arith) (first-most 18 (jobTests (p .order) (length (p .sizes)) n a) refl) (omega arith) (omega arith)
 tests-most p (row ts) =
     due-most (p .due) (omega arith) (omega arith) (first-most 18 (rowTests (p .algebra) (p .size) ts) refl) (omega arith)
 tests-most p close = due-most (p .due) (omega arith) (first-most 18 (listEndTests (length (p .sizes))) refl) (omega arith) (omega arith)
@@ -64,7 +64,7 @@ step-most p f = by (tests p f) (tests-most p f)
 -- a reading's refusal with at most n lines
 Most : ℕ → Reading → Type 0
 Most n (refused r) = (r .number ≤ 18) × (r .line ≤ n)
-Most n (accepted order a sizes weights) = Unit {0}
+Most n (accepted order algebras sizes weights) = Unit {0}
 
 ended-most : (d : Due) (n line : ℕ) (p : Progress) → line ≤ n → Most n (ended d line p)
 unfolding Most
@@ -96,7 +96,7 @@ lines-length : (text : List ℕ) → length (lines text) ≤ length text
 unfolding lines
 lines-length text = rw (length-map (cut 10 0 text) bytesOf) (cut-length 10 0 text)
 
-reading-most : (text : List ℕ) → Most 65536 (readingOf 16 16384 text)
+reading-most : (text : List ℕ) → Most 65536 (readingOf 16 16 16384 text)
 unfolding readingOf Most StepMost
 reading-most text = by (ltb 65536 (length text)) refl
   where
@@ -105,7 +105,7 @@ reading-most text = by (ltb 65536 (length text)) refl
     by false e =
         follow-most 65536 0 (lines text) (go start) tt (omega (arith, ltb-false 65536 (length text) e, lines-length text))
 
-small : (text : List ℕ) (r : Refusal) → readingOf 16 16384 text ≡ refused r → (r .number ≤ 18) × (r .line ≤ 65536)
+small : (text : List ℕ) (r : Refusal) → readingOf 16 16 16384 text ≡ refused r → (r .number ≤ 18) × (r .line ≤ 65536)
 unfolding Most
 small text r e = rw e at (reading-most text)
 
@@ -114,15 +114,15 @@ refusal-numbers text r e =
     let (number, line) = small text r e in
     (numerals (r .number) (omega arith), numerals (r .line) (omega arith))
 
-top-most : (a : Algebra) → topOf a ≤ 65535
+pub top-most : (a : Algebra) → topOf a ≤ 65535
 top-most Reach = omega arith
 top-most Distance = omega arith
 top-most Steepest = omega arith
 
 pub list-numbers : List-numbers
-list-numbers text order a sizes weights e =
-    let list : ListAccepted (jobsOf a order sizes weights) = whole 16 16384 text order a sizes weights e in
-    let J : Jobs = jobsOf a order sizes weights in
+list-numbers text order algebras sizes weights e =
+    let list : ListAccepted (jobsOf algebras order sizes weights) = whole 16 16 16384 text order algebras sizes weights e in
+    let J : Jobs = jobsOf algebras order sizes weights in
     let within = list .fits .ranged in
     let short = total-most (within .most) (within .few) in
     record {
@@ -137,6 +137,6 @@ list-numbers text order a sizes weights e =
           );
       tick = λ q i k at. numerals (leaves J q i k) (omega (arith, tick-within list at, short));
       words = λ q i k at.
-          let word = le-trans (closure-word a (size J q) (jobWeights J q) (list .words q) i k) (top-most a) in
+          let word = le-trans (closure-word (algebra J q) (size J q) (jobWeights J q) (list .words q) i k) (top-most (algebra J q)) in
           numerals (closureWords J q i k) (omega arith);
     }

@@ -13,7 +13,7 @@ use borrow.Author.Tests.{eq-eqb, ne-eqb}
 use Rattle.semiring.specs.Algebra.{noneOf}
 use Rattle.semiring.specs.declared.Algebra.{Algebra}
 use Rattle.semiring.specs.declared.Algebra.the-variants.{Reach, Distance, Steepest}
-use Rattle.job_list.specs.Jobs.{Jobs, count, size, jobsOf}
+use Rattle.job_list.specs.Jobs.{Jobs, count, size, algebra, jobsOf}
 use Rattle.systolic.specs.Tick.{leaves}
 use Rattle.systolic.proofs.Totals.{total-most}
 use Rattle.job_text.specs.Reading.{Reading, refused, accepted, readingOf}
@@ -70,11 +70,11 @@ module _ (J : Jobs) (word : Words) (list : ListFits J) (ticks : ℕ) (short : ti
   entry-length t i q k ht hi hq hk = by (ℕ-discrete t (leaves J q i k)) (ltb i (size J q))
     where
       by : Dec (t ≡ leaves J q i k) → (b : Bool)
-          → length (cond (b && eqb t (leaves J q i k)) (outLine (J .algebra q) q i k (size J q) t (word q i k)) [])
+          → length (cond (b && eqb t (leaves J q i k)) (outLine (algebra J q) q i k (size J q) t (word q i k)) [])
           ≤ cond (eqb t (leaves J q i k)) line-most 0
       by (yes e) true =
           rw (eq-eqb t (leaves J q i k) e)
-          (out-length (J .algebra q) q i k (size J q) t (word q i k)
+          (out-length (algebra J q) q i k (size J q) t (word q i k)
           (omega (arith, list .ranged .few)) (omega (arith, order-most)) (omega (arith, size-most q hq)) (omega (arith, size-most q hq))
           (omega arith))
       by (yes e) false = rw (eq-eqb t (leaves J q i k) e) (omega arith)
@@ -116,17 +116,17 @@ module _ (J : Jobs) (word : Words) (list : ListFits J) (ticks : ℕ) (short : ti
         lines-length,
       )
 
-room-by : (text : List ℕ) (r : Reading) → readingOf 16 16384 text ≡ r → length (printed r) ≤ pageBytes
+room-by : (text : List ℕ) (r : Reading) → readingOf 16 16 16384 text ≡ r → length (printed r) ≤ pageBytes
 room-by text (refused r) e = omega (arith, refused-length (r .number) (r .line))
-room-by text (accepted order a sizes weights) e =
-    let list : ListAccepted (jobsOf a order sizes weights) = whole 16 16384 text order a sizes weights e in
-    let J : Jobs = jobsOf a order sizes weights in
-    let after = wholeRun a order sizes weights in
+room-by text (accepted order algebras sizes weights) e =
+    let list : ListAccepted (jobsOf algebras order sizes weights) = whole 16 16 16384 text order algebras sizes weights e in
+    let J : Jobs = jobsOf algebras order sizes weights in
+    let after = wholeRun algebras order sizes weights in
     sheet-length J (resultWords J after) (list .fits) (after .made)
     (omega (arith, whole-made list, total-most (list .fits .ranged .most) (list .fits .ranged .few)))
 
 pub room : Room
-room text = room-by text (readingOf 16 16384 text) refl
+room text = room-by text (readingOf 16 16 16384 text) refl
 
 -- What is printed on a page with that room: the whole sheet.
 module _ (text page : List ℕ) (long : length page ≡ pageBytes) {n : ℕ} (outcome : n ≡ min (length page) (length (sheetOf text))) where

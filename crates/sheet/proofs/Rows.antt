@@ -8,7 +8,7 @@ use mathlib.Core.Bool.{and-false}
 use lib.ListN.{getD}
 use lib.Dec.{ltb}
 use borrow.Author.Tests.{lt-ltb, le-ltb, eq-eqb, ne-eqb, le-leb, lt-leb}
-use Rattle.job_list.specs.Jobs.{Jobs, count, size, Entry}
+use Rattle.job_list.specs.Jobs.{Jobs, count, size, algebra, Entry}
 use Rattle.systolic.specs.Tick.{leaves}
 use Rattle.memory.proofs.Geometry.{same-digits}
 use Rattle.job_list.specs.Fits.{ListFits}
@@ -41,7 +41,7 @@ module _ (J : Jobs) (word : Words) (t i : ℕ) where
       (λ k hk. entry-empty q k (λ hi. none q k (record { job = hq; row = hi; column = hk }))))
 
   pub row-line : ListFits J → {q k : ℕ} → Entry J q i k → t ≡ leaves J q i k
-      → rowLines J word t i ≡ outLine (J .algebra q) q i k (size J q) t (word q i k)
+      → rowLines J word t i ≡ outLine (algebra J q) q i k (size J q) t (word q i k)
   row-line fits {q} {k} at e =
       joined-one (count J) (λ q′. joined (size J q′) (entryLine J word t i q′)) q (at .job)
       (λ q′ hq d.
@@ -74,7 +74,7 @@ module _ (J : Jobs) (word : Words) (fits : ListFits J) (t : ℕ) where
     pub lines-now : q < count J → (part : List ℕ)
         → ((i k : ℕ) → i < size J q → k < size J q → getD part (i * size J q + k) 0 ≡ word q i k)
         → joined (J .order) (rowLines J word t)
-        ≡ joined (size J q) (leavingLine (J .algebra q) (record { job = q; size = size J q; sum = d; tick = t }) part)
+        ≡ joined (size J q) (leavingLine (algebra J q) (record { job = q; size = size J q; sum = d; tick = t }) part)
     unfolding leavingLine
     lines-now job part same =
         joined-less (J .order) (size J q) (rowLines J word t) (fits .sizes-fit q job .1)
@@ -82,7 +82,7 @@ module _ (J : Jobs) (word : Words) (fits : ListFits J) (t : ℕ) where
         ∙ joined-same (size J q) (rowLines J word t) line (λ i hi. row i hi (decLt d i) (decLt (d - i) (size J q)))
       where
         line : ℕ → List ℕ
-        line = leavingLine (J .algebra q) (record { job = q; size = size J q; sum = d; tick = t }) part
+        line = leavingLine (algebra J q) (record { job = q; size = size J q; sum = d; tick = t }) part
 
         outside : (i q′ k : ℕ) → size J q ≤ i → Entry J q′ i k → t ≡ leaves J q′ i k → ⊥
         outside i q′ k above at f =

@@ -1,19 +1,14 @@
 -- A list that the reader accepted is started and run, and never refused.
 use Prim.Native.Nat.{ℕ, _+_, _-_, min, zero-le}
 use native.Mathlib.Omega.{arith}
-use mathlib.Core.Path.{_≡_, refl, sym, ap, _∙_}
-use mathlib.Core.Logic.{inl, inr}
+use mathlib.Core.Path.{_≡_, sym, ap, _∙_}
 use mathlib.Core.List.{List, [], _∷_, _++_}
 use lib.ListN.{length, replicate, length-replicate}
 use borrow.Author.Tests.{eq-eqb}
 use denote.Enum.Declared.{tagOf}
-use types.Run.{OneOf}
+use types.Run.{OneOf, miss}
 use mir.Syntax.{w32}
 use mir.Val.{Fits}
-use Rattle.semiring.specs.declared.Algebra.{Algebra}
-use Rattle.semiring.specs.declared.Algebra.the-variants.{Reach, Distance, Steepest}
-use Rattle.semiring.specs.declared.Named.the-variants.{Known}
-use Rattle.semiring.specs.Named.{namedOf, numberOf}
 use Rattle.job_list.specs.Fits.{ListAccepted}
 use Rattle.job_list.specs.Jobs.{wordsOf, jobsOf}
 use Rattle.systolic.specs.Tick.{ticks}
@@ -21,8 +16,8 @@ use Rattle.systolic.specs.State.{stateLength, scratchLength, total}
 use Rattle.systolic.specs.Start.{startTests, started, zeroPlanes, stateAfterStart}
 use Rattle.systolic.specs.Run.{Ran, ran}
 use Rattle.systolic.proofs.Totals.{total-most}
-use Rattle.job_list.proofs.Fits.{order-passes, count-passes, sizes-pass, words-pass}
 use Rattle.systolic.proofs.Demand.{zero-sized}
+use Rattle.systolic.proofs.Started.{starts}
 use Rattle.systolic.proofs.Runs.{acceptedRun, run-accepted}
 use Rattle.array.specs.declared.starting.StartAnswer.{StartAnswer}
 use Rattle.array.specs.declared.starting.StartAnswer.the-variants as start
@@ -41,56 +36,38 @@ use Rattle.sheet.specs.Sheet.{startedState, wholeRun, sheetFrom}
 use Rattle.sheet.specs.inner.Leaving.{Printable, tickLines}
 use Rattle.sheet.specs.inner.Memory.{RunMemory}
 
--- The number of an algebra names it.
-pub named : (a : Algebra) → namedOf (numberOf a) ≡ Known a
-named Reach = refl
-named Distance = refl
-named Steepest = refl
-
 -- The answer of a run that was accepted, and the results that it left: those of the whole run.
 record RanWhole (answer : RunAnswer) (results : List ℕ) (whole : Ran) : Type 0 where
   pub number : runNumber answer ≡ 0
   pub made : runMade answer ≡ whole .made
   pub words : results ≡ whole .results
 
-module _ {a : Algebra} {order : ℕ} {sizes weights : List ℕ} (list : ListAccepted (jobsOf a order sizes weights)) where
+module _ {algebras : List ℕ} {order : ℕ} {sizes weights : List ℕ} (list : ListAccepted (jobsOf algebras order sizes weights)) where
   -- No test of start applies, so it leaves a started state.
-  start-tests : (state : List ℕ) → length state ≡ stateLength order → startTests (namedOf (numberOf a)) order sizes weights state ≡ 0
-  start-tests state fits =
-      rw (
-        named a,
-        order-passes (list .fits),
-        count-passes (list .fits),
-        sizes-pass (list .fits),
-        eq-eqb (length weights) (wordsOf sizes) (list .weights-fit),
-        eq-eqb (length state) (stateLength order) fits,
-        words-pass list,
-      )
-
   start-leaves : (state : List ℕ) → length state ≡ stateLength order
-      → stateAfterStart (numberOf a) order sizes weights state ≡ started (numberOf a) order sizes
-  start-leaves state fits = rw (start-tests state fits)
+      → stateAfterStart algebras order sizes weights state ≡ started order sizes
+  start-leaves state fits = rw (starts list state fits)
 
   -- the same of a state of zeros, from which the sheet's definition starts
-  pub begun-tests : startTests (namedOf (numberOf a)) order sizes weights (replicate (stateLength order) 0) ≡ 0
-  begun-tests = start-tests (replicate (stateLength order) 0) (length-replicate {A = ℕ} (stateLength order) 0)
+  pub begun-tests : startTests algebras order sizes weights (replicate (stateLength order) 0) ≡ 0
+  begun-tests = starts list (replicate (stateLength order) 0) (length-replicate {A = ℕ} (stateLength order) 0)
 
-  begun-leaves : startedState a order sizes weights ≡ started (numberOf a) order sizes
+  begun-leaves : startedState algebras order sizes weights ≡ started order sizes
   begun-leaves = start-leaves (replicate (stateLength order) 0) (length-replicate {A = ℕ} (stateLength order) 0)
 
   -- the run of a started list, whatever its scratch holds
   one-run : (scratch results : List ℕ) → length scratch ≡ scratchLength order → length results ≡ wordsOf sizes
-      → ran (startedState a order sizes weights) sizes weights 65535 scratch results
+      → ran (startedState algebras order sizes weights) algebras sizes weights 65535 scratch results
       ≡ (let made = min 65535 (total order (length sizes) - 0) in
-      acceptedRun order (numberOf a) (length sizes) (0 + made) made scratch
-      (ticks (jobsOf a order sizes weights) 0 made (record { planes = zeroPlanes order; results = results })))
+      acceptedRun order (length sizes) (0 + made) made scratch
+      (ticks (jobsOf algebras order sizes weights) 0 made (record { planes = zeroPlanes order; results = results })))
   one-run scratch results fits fits′ =
       rw begun-leaves
-      (run-accepted list (numberOf a) (named a) 0 (zeroPlanes order) (zero-sized order) zero-le 65535 scratch results
+      (run-accepted list 0 (zeroPlanes order) (zero-sized order) zero-le 65535 scratch results
       (rw (eq-eqb (length scratch) (scratchLength order) fits, eq-eqb (length results) (wordsOf sizes) fits′)))
 
   -- it makes every tick of the list
-  pub whole-made : wholeRun a order sizes weights .made ≡ total order (length sizes)
+  pub whole-made : wholeRun algebras order sizes weights .made ≡ total order (length sizes)
   whole-made =
       ap (λ (r : Ran). r .made)
       (one-run (replicate (scratchLength order) 0) (replicate (wordsOf sizes) 0) (length-replicate {A = ℕ} (scratchLength order) 0)
@@ -98,11 +75,11 @@ module _ {a : Algebra} {order : ℕ} {sizes weights : List ℕ} (list : ListAcce
       ∙ omega (arith, total-most (list .fits .ranged .most) (list .fits .ranged .few))
 
   -- It is accepted, and leaves what the whole run leaves.
-  run-whole : {state results : List ℕ} (scratch : List ℕ) → state ≡ startedState a order sizes weights → length scratch ≡ scratchLength order
+  run-whole : {state results : List ℕ} (scratch : List ℕ) → state ≡ startedState algebras order sizes weights → length scratch ≡ scratchLength order
       → results ≡ replicate (wordsOf sizes) 0
-      → (ran state sizes weights 65535 scratch results .number ≡ 0)
-      × (ran state sizes weights 65535 scratch results .made ≡ wholeRun a order sizes weights .made)
-      × (ran state sizes weights 65535 scratch results .results ≡ wholeRun a order sizes weights .results)
+      → (ran state algebras sizes weights 65535 scratch results .number ≡ 0)
+      × (ran state algebras sizes weights 65535 scratch results .made ≡ wholeRun algebras order sizes weights .made)
+      × (ran state algebras sizes weights 65535 scratch results .results ≡ wholeRun algebras order sizes weights .results)
   run-whole {state} {results} scratch isState fits zeros =
       let long : length (replicate {A = ℕ} (wordsOf sizes) 0) ≡ wordsOf sizes = length-replicate {A = ℕ} (wordsOf sizes) 0 in
       let here = one-run scratch (replicate (wordsOf sizes) 0) fits long in
@@ -114,17 +91,8 @@ module _ {a : Algebra} {order : ℕ} {sizes weights : List ℕ} (list : ListAcce
       )
 
 -- An answer that is not the first one is a refusal.
-later : (x : ℕ) → OneOf (1 ∷ 2 ∷ 3 ∷ 4 ∷ 5 ∷ 6 ∷ 7 ∷ []) x → x ≡ 0 → ⊥
-later x (inl e) z = omega arith
-later x (inr (inl e)) z = omega arith
-later x (inr (inr (inl e))) z = omega arith
-later x (inr (inr (inr (inl e)))) z = omega arith
-later x (inr (inr (inr (inr (inl e))))) z = omega arith
-later x (inr (inr (inr (inr (inr (inl e)))))) z = omega arith
-later x (inr (inr (inr (inr (inr (inr e)))))) z = omega arith
-
 start-refused : (r : StartAnswer) → OneOf (1 ∷ 2 ∷ 3 ∷ 4 ∷ 5 ∷ 6 ∷ 7 ∷ []) (tagOf StartAnswer.the-type r) → startNumber r ≡ 0 → ⊥
-start-refused start.Done k e = later 0 k refl
+start-refused start.Done k e = miss (1 ∷ 2 ∷ 3 ∷ 4 ∷ 5 ∷ 6 ∷ 7 ∷ []) 0 tt k
 start-refused start.AlgebraUnknown k e = omega arith
 start-refused start.OrderOutside k e = omega arith
 start-refused start.JobsOutside k e = omega arith
@@ -133,10 +101,11 @@ start-refused start.WeightsLength k e = omega arith
 start-refused start.StateLength k e = omega arith
 start-refused start.WordAbove k e = omega arith
 
-run-refused : (r : RunAnswer) → OneOf (1 ∷ 2 ∷ 3 ∷ 4 ∷ 5 ∷ 6 ∷ 7 ∷ []) (tagOf RunAnswer.the-type r) → runNumber r ≡ 0 → ⊥
-run-refused (run.Made n) k e = later 0 k refl
+run-refused : (r : RunAnswer) → OneOf (1 ∷ 2 ∷ 3 ∷ 4 ∷ 5 ∷ 6 ∷ 7 ∷ 8 ∷ []) (tagOf RunAnswer.the-type r) → runNumber r ≡ 0 → ⊥
+run-refused (run.Made n) k e = miss (1 ∷ 2 ∷ 3 ∷ 4 ∷ 5 ∷ 6 ∷ 7 ∷ 8 ∷ []) 0 tt k
 run-refused run.StateUnfit k e = omega arith
 run-refused run.JobsDiffer k e = omega arith
+run-refused run.AlgebraUnknown k e = omega arith
 run-refused run.SizeOutside k e = omega arith
 run-refused run.WeightsLength k e = omega arith
 run-refused run.ScratchLength k e = omega arith
@@ -144,35 +113,38 @@ run-refused run.ResultsLength k e = omega arith
 run-refused run.WordAbove k e = omega arith
 
 -- The first line and the ticks' lines are the sheet.
-sheet-is : (a : Algebra) (order : ℕ) (sizes weights : List ℕ) {made : ℕ} {results : List ℕ} (after : Ran)
+sheet-is : (algebras : List ℕ) (order : ℕ) (sizes weights : List ℕ) {made : ℕ} {results : List ℕ} (after : Ran)
     → made ≡ after .made → results ≡ after .results
-    → jobsLine (length sizes) made ++ joined made (tickLines a order sizes results) ≡ sheetFrom (jobsOf a order sizes weights) after
+    → jobsLine (length sizes) made ++ joined made (tickLines algebras order sizes results) ≡ sheetFrom (jobsOf algebras order sizes weights) after
 unfolding sheet tickLines
-sheet-is a order sizes weights after isMade isResults = rw (isMade, isResults)
+sheet-is algebras order sizes weights after isMade isResults = rw (isMade, isResults)
 
 -- What `print_run` asks of the list and the memory, and what start, clear and run leave of that memory.
-module _ {a : Algebra} {order : ℕ} {sizes weights state scratch results : List ℕ}
-    (asked : ListAccepted (jobsOf a order sizes weights) × RunMemory order sizes state scratch results) where
+module _ {algebras : List ℕ} {order : ℕ} {sizes weights state scratch results : List ℕ}
+    (asked : ListAccepted (jobsOf algebras order sizes weights) × RunMemory order sizes state scratch results) where
   pub jobs-room : Fits w32 (length sizes)
   jobs-room = omega (arith, asked .0 .fits .ranged .few)
 
   pub printable : {results′ results″ : List ℕ} → results′ ≡ replicate (length results) 0 → length results″ ≡ length results′
-      → Printable a order sizes results″
+      → Printable algebras order sizes results″
   printable zeros kept = record {
-    list = record { ranged = asked .0 .fits .ranged; sizes-fit = asked .0 .fits .sizes-fit };
+    list = record {
+      ranged = asked .0 .fits .ranged;
+      algebras-fit = asked .0 .fits .algebras-fit;
+      sizes-fit = asked .0 .fits .sizes-fit;
+    };
     results-fit = kept ∙ ap length zeros ∙ length-replicate {A = ℕ} (length results) 0 ∙ asked .1 .results-fit;
   }
 
-  module _ {n : ℕ} (isNumber : n ≡ numberOf a) {first : StartAnswer} {state′ : List ℕ} (left : StartLeft first n order sizes weights state state′) where
+  module _ {first : StartAnswer} {state′ : List ℕ} (left : StartLeft first algebras order sizes weights state state′) where
     pub start-accepts : OneOf (1 ∷ 2 ∷ 3 ∷ 4 ∷ 5 ∷ 6 ∷ 7 ∷ []) (tagOf StartAnswer.the-type first) → ⊥
-    start-accepts refused = start-refused first refused (left .outcome ∙ rw isNumber (start-tests (asked .0) state (asked .1 .state-fits)))
+    start-accepts refused = start-refused first refused (left .outcome ∙ starts (asked .0) state (asked .1 .state-fits))
 
     module _ {answer : RunAnswer} {state″ scratch″ results′ results″ : List ℕ} (cleared : results′ ≡ replicate (length results) 0)
-        (answered : Answered answer state″ scratch″ results″ (ran state′ sizes weights 65535 scratch results′)) where
-      run-done : RanWhole answer results″ (wholeRun a order sizes weights)
+        (answered : Answered answer state″ scratch″ results″ (ran state′ algebras sizes weights 65535 scratch results′)) where
+      run-done : RanWhole answer results″ (wholeRun algebras order sizes weights)
       run-done =
-          let isState = left .memory ∙ ap (λ (m : ℕ). stateAfterStart m order sizes weights state) isNumber
-          ∙ start-leaves (asked .0) state (asked .1 .state-fits) ∙ sym (begun-leaves (asked .0)) in
+          let isState = left .memory ∙ start-leaves (asked .0) state (asked .1 .state-fits) ∙ sym (begun-leaves (asked .0)) in
           let zeros = cleared ∙ ap (λ (m : ℕ). replicate {A = ℕ} m 0) (asked .1 .results-fit) in
           let (number, made, words) = run-whole (asked .0) scratch isState (asked .1 .scratch-fits) zeros in
           record {
@@ -181,13 +153,13 @@ module _ {a : Algebra} {order : ℕ} {sizes weights state scratch results : List
             words = answered .results-after ∙ words;
           }
 
-      pub run-accepts : OneOf (1 ∷ 2 ∷ 3 ∷ 4 ∷ 5 ∷ 6 ∷ 7 ∷ []) (tagOf RunAnswer.the-type answer) → ⊥
+      pub run-accepts : OneOf (1 ∷ 2 ∷ 3 ∷ 4 ∷ 5 ∷ 6 ∷ 7 ∷ 8 ∷ []) (tagOf RunAnswer.the-type answer) → ⊥
       run-accepts refused = run-refused answer refused (run-done .number)
 
       pub sheet-printed : {ticks : ℕ} → answer ≡ run.Made ticks → {page page′ page″ : List ℕ} {at next : ℕ}
           → Put page 0 (jobsLine (length sizes) ticks) page′ at
-          → Put page′ at (joined ticks (tickLines a order sizes results″)) page″ next
-          → Put page 0 (sheetFrom (jobsOf a order sizes weights) (wholeRun a order sizes weights)) page″ next
+          → Put page′ at (joined ticks (tickLines algebras order sizes results″)) page″ next
+          → Put page 0 (sheetFrom (jobsOf algebras order sizes weights) (wholeRun algebras order sizes weights)) page″ next
       sheet-printed made first rest =
           put-as (first then rest)
-          (sheet-is a order sizes weights (wholeRun a order sizes weights) (ap runMade (sym made) ∙ run-done .made) (run-done .words))
+          (sheet-is algebras order sizes weights (wholeRun algebras order sizes weights) (ap runMade (sym made) ∙ run-done .made) (run-done .words))

@@ -1,37 +1,22 @@
 -- A line tells its job's size: cut at its spaces, it has the size's numeral as its fifth part.
-use Prim.Native.Nat.{ℕ, suc, _<_, _≤_}
+use Prim.Native.Nat.{ℕ, _≤_}
 use Prim.Native.Char.{code}
 use native.Mathlib.Omega.{arith}
 use mathlib.Core.Path.{_≡_, refl, sym, ap, _∙_}
 use mathlib.Core.List.{List, [], _∷_, _++_, append-assoc}
-use lib.ListN.{length, getD}
-use borrow.Author.Tests.{ne-eqb}
 use Rattle.semiring.specs.declared.Algebra.{Algebra}
-use Rattle.job_list.specs.Jobs.{size}
+use Rattle.job_list.specs.Jobs.{size, algebra}
 use Rattle.systolic.specs.Tick.{leaves}
 use Rattle.text.specs.Ascii.{ascii}
-use Rattle.text.specs.Pieces.{Piece, cut, placed, parts}
+use Rattle.text.specs.Pieces.{cut, placed, parts}
 use Rattle.text.specs.Numeral.{shown}
-use Rattle.text.specs.claims.Numerals.{NumeralOf}
 use Rattle.text.proofs.Numerals.{numerals}
 use Rattle.text.proofs.Runs.{parts-space}
 use Rattle.sheet.specs.Lines.{shownWord, spaced, outLine}
 use Rattle.sheet.specs.claims.Demand.{closureWords}
 use Rattle.sheet.specs.claims.Sizes.{fifthNumber, Size-read, Told-apart}
 use Rattle.sheet.proofs.Rows.{row-line}
-
--- Bytes from 48 on, as digits are, have no space among them.
-cut-digits : (at b : ℕ) (l : List ℕ) → ((p : ℕ) → p < suc (length l) → 48 ≤ getD (b ∷ l) p 0)
-    → cut (code " ") at (b ∷ l) ≡ record { at = at; bytes = b ∷ l } ∷ []
-unfolding cut
-cut-digits at b [] digits = rw (ne-eqb b (code " ") (λ e. omega (arith, digits 0 (omega arith))))
-cut-digits at b (c ∷ l) digits =
-    rw (ne-eqb b (code " ") (λ e. omega (arith, digits 0 (omega arith))), cut-digits (suc at) c l (λ p h. digits (suc p) (omega arith)))
-
-numeral-part : {n : ℕ} (l : List ℕ) → NumeralOf n l → parts l ≡ l ∷ []
-unfolding parts placed
-numeral-part [] is = absurd (omega (arith, is .some))
-numeral-part (b ∷ l) is = rw (cut-digits 0 b l (λ p h. is .digits p h .0))
+use Rattle.sheet.proofs.Solid.{numeral-part}
 
 -- one more number, and a space with all that follows it
 number-more : (x : List ℕ) (n : ℕ) → n ≤ 99999 → parts (x ++ spaced n) ≡ parts x ++ (shown n ∷ [])
@@ -50,7 +35,7 @@ unfolding parts placed cut
 first-part = refl
 
 module _ (a : Algebra) (q i k n t w : ℕ) (hq : q ≤ 99999) (hi : i ≤ 99999) (hk : k ≤ 99999) (hn : n ≤ 99999) where
-  line-parts : parts (outLine a q i k n t w)
+  pub line-parts : parts (outLine a q i k n t w)
       ≡ ascii "(out" ∷ shown q ∷ shown i ∷ shown k ∷ shown n ∷ parts (shown t ++ ascii " " ++ shownWord a w ++ ascii ")\n")
   line-parts =
       rw (
@@ -70,7 +55,7 @@ size-read J fits q i k at =
     let most : size J q ≤ J .order = fits .sizes-fit q (at .job) .1 in
     let range = fits .ranged in
     ap fifthNumber (row-line J (closureWords J) (leaves J q i k) i fits at refl)
-    ∙ line-size (J .algebra q) q i k (size J q) (leaves J q i k) (closureWords J q i k)
+    ∙ line-size (algebra J q) q i k (size J q) (leaves J q i k) (closureWords J q i k)
     (omega (arith, at .job, range .few)) (omega (arith, at .row, range .most)) (omega (arith, at .column, range .most))
     (omega (arith, range .most))
 

@@ -7,7 +7,7 @@ use Rattle.text.specs.Ascii.{ascii}
 use Rattle.semiring.specs.Algebra.{noneOf}
 use Rattle.semiring.specs.declared.Algebra.{Algebra}
 use Rattle.semiring.specs.declared.Algebra.the-variants.{Reach, Distance, Steepest}
-use Rattle.job_list.specs.Jobs.{Jobs, count, size}
+use Rattle.job_list.specs.Jobs.{Jobs, count, size, algebra}
 use Rattle.systolic.specs.Tick.{leaves}
 use Rattle.text.specs.Joined.{joined}
 use Rattle.text.specs.Numeral.{shown}
@@ -43,7 +43,7 @@ Words = ℕ → ℕ → ℕ → ℕ
 module _ (J : Jobs) (word : Words) where
   -- The line of entry (i, k) of job q, if it leaves on tick t.
   abbrev pub entryLine : ℕ → ℕ → ℕ → ℕ → List ℕ
-  entryLine t i q k = cond (ltb i (size J q) && eqb t (leaves J q i k)) (outLine (J .algebra q) q i k (size J q) t (word q i k)) []
+  entryLine t i q k = cond (ltb i (size J q) && eqb t (leaves J q i k)) (outLine (algebra J q) q i k (size J q) t (word q i k)) []
 
   -- What leaves from row i on tick t.
   abbrev pub rowLines : ℕ → ℕ → List ℕ

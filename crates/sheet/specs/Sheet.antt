@@ -2,8 +2,6 @@
 use Prim.Native.Nat.{ℕ}
 use mathlib.Core.List.{List}
 use lib.ListN.{getD, replicate}
-use Rattle.semiring.specs.declared.Algebra.{Algebra}
-use Rattle.semiring.specs.Named.{numberOf}
 use Rattle.job_list.specs.Jobs.{Jobs, place, wordsOf, jobsOf}
 use Rattle.systolic.specs.State.{stateLength, scratchLength}
 use Rattle.systolic.specs.Start.{stateAfterStart}
@@ -12,13 +10,13 @@ use Rattle.job_text.specs.Reading.{Reading, refused, accepted, readingOf}
 use Rattle.sheet.specs.Lines.{Words, refusedLine, sheet}
 
 -- What start leaves in a state of zeros.
-abbrev pub startedState : Algebra → ℕ → List ℕ → List ℕ → List ℕ
-startedState a order sizes weights = stateAfterStart (numberOf a) order sizes weights (replicate (stateLength order) 0)
+abbrev pub startedState : List ℕ → ℕ → List ℕ → List ℕ → List ℕ
+startedState algebras order sizes weights = stateAfterStart algebras order sizes weights (replicate (stateLength order) 0)
 
 -- The whole run of a list: from what start leaves, with the largest allowance, which is above every list's total.
-abbrev pub wholeRun : Algebra → ℕ → List ℕ → List ℕ → Ran
-wholeRun a order sizes weights =
-    ran (startedState a order sizes weights) sizes weights 65535 (replicate (scratchLength order) 0) (replicate (wordsOf sizes) 0)
+abbrev pub wholeRun : List ℕ → ℕ → List ℕ → List ℕ → Ran
+wholeRun algebras order sizes weights =
+    ran (startedState algebras order sizes weights) algebras sizes weights 65535 (replicate (scratchLength order) 0) (replicate (wordsOf sizes) 0)
 
 -- The words that a run left in the results.
 abbrev pub resultWords : Jobs → Ran → Words
@@ -29,8 +27,9 @@ sheetFrom J after = sheet J (resultWords J after) (after .made)
 
 abbrev pub printed : Reading → List ℕ
 printed (refused r) = refusedLine (r .number) (r .line)
-printed (accepted order a sizes weights) = sheetFrom (jobsOf a order sizes weights) (wholeRun a order sizes weights)
+printed (accepted order algebras sizes weights) =
+    sheetFrom (jobsOf algebras order sizes weights) (wholeRun algebras order sizes weights)
 
 -- The printed bytes for every text.
 abbrev pub sheetOf : List ℕ → List ℕ
-sheetOf text = printed (readingOf 16 16384 text)
+sheetOf text = printed (readingOf 16 16 16384 text)

@@ -20,23 +20,25 @@ use list::print_list;
 // Room for every sheet: the claim `Room`.
 pub const PAGE_BYTES: usize = 475157;
 
-// With buffers for the text's sizes and weights.
-fn print_text(text: &[u8], page: &mut [u8], sizes: &mut [u16], weights: &mut [u16]) -> usize
-    requires { ⌜ (length (now sizes) ≡ 16) × (length (now weights) ≡ 16384) ⌝ }
+// With buffers for the text's algebras, sizes and weights.
+fn print_text(
+    text: &[u8],
+    page: &mut [u8],
+    algebras: &mut [u16],
+    sizes: &mut [u16],
+    weights: &mut [u16],
+) -> usize
+    requires { ⌜ (length (now algebras) ≡ 16) × (length (now sizes) ≡ 16) × (length (now weights) ≡ 16384) ⌝ }
     ensures { λ r. ⌜ Put (now (page .entry)) 0 (sheetOf (now (text .entry))) (now (page .exit)) r ⌝ }
 {
-    let answer = read(text, sizes, weights);
+    let answer = read(text, algebras, sizes, weights);
     match answer {
-        Read::List {
-            order,
-            algebra,
-            jobs,
-        } => {
+        Read::List { order, jobs } => {
             let count = jobs as usize;
             let words = words_before(&sizes[..count], count);
             print_list(
                 page,
-                algebra,
+                &algebras[..count],
                 order as usize,
                 &sizes[..count],
                 &weights[..words],
@@ -46,7 +48,8 @@ fn print_text(text: &[u8], page: &mut [u8], sizes: &mut [u16], weights: &mut [u1
     }
 }
 
-fn size_room() -> [u16; 16]
+// A word for each job: its algebra, or its size.
+fn job_room() -> [u16; 16]
     ensures { λ r. ⌜ length r ≡ 16 ⌝ }
 {
     [0u16; 16]
@@ -63,9 +66,10 @@ pub fn print_sheet(text: &[u8], page: &mut [u8]) -> usize
     ensures outcome { λ r. ⌜ r ≡ min (length (now (page .entry))) (length (sheetOf (now (text .entry)))) ⌝ }
     ensures memory { λ _. ⌜ now (page .exit) ≡ overwritten (sheetOf (now (text .entry))) (now (page .entry)) ⌝ }
 {
-    let mut sizes = size_room();
+    let mut algebras = job_room();
+    let mut sizes = job_room();
     let mut weights = weight_room();
-    print_text(text, page, &mut sizes, &mut weights)
+    print_text(text, page, &mut algebras, &mut sizes, &mut weights)
 }
 
 // Prints the whole sheet of a job text: a page with that room holds it to its last byte.

@@ -14,13 +14,11 @@ use array::run;
 use array::scratch_words;
 use array::start;
 use memory::clear;
-use semiring::Algebra;
-use semiring::number;
 
 // With memory of the array's lengths. A list that was read is never refused.
 fn print_run(
     page: &mut [u8],
-    algebra: Algebra,
+    algebras: &[u16],
     order: usize,
     sizes: &[u16],
     weights: &[u16],
@@ -28,22 +26,24 @@ fn print_run(
     scratch: &mut [u16],
     results: &mut [u16],
 ) -> usize
-    requires { ⌜ ListAccepted (jobsOf algebra order (now sizes) (now weights)) ⌝ }
+    requires { ⌜ ListAccepted (jobsOf (now algebras) order (now sizes) (now weights)) ⌝ }
     requires { ⌜ RunMemory order (now sizes) (now state) (now scratch) (now results) ⌝ }
     ensures { λ r. ⌜ Put (now (page .entry)) 0
-        (sheetFrom (jobsOf algebra order (now (sizes .entry)) (now (weights .entry))) (wholeRun algebra order (now (sizes .entry)) (now (weights .entry))))
+        (sheetFrom (jobsOf (now (algebras .entry)) order (now (sizes .entry)) (now (weights .entry)))
+        (wholeRun (now (algebras .entry)) order (now (sizes .entry)) (now (weights .entry))))
         (now (page .exit)) r ⌝ }
 {
-    let StartAnswer::Done = start(number(algebra), order, sizes, weights, state) else {
+    let StartAnswer::Done = start(algebras, order, sizes, weights, state) else {
         return 0;
     };
     // The sheet's definition runs on results of zeros.
     clear(results);
-    let RunAnswer::Made(ticks) = run(state, sizes, weights, 65535, scratch, results) else {
+    let RunAnswer::Made(ticks) = run(state, algebras, sizes, weights, 65535, scratch, results)
+    else {
         return 0;
     };
     let at = put_jobs(page, sizes.len() as u32, ticks as u32);
-    put_ticks(page, at, algebra, order, sizes, results, ticks as usize)
+    put_ticks(page, at, algebras, order, sizes, results, ticks as usize)
 }
 
 fn state_room() -> [u16; 3076]
@@ -66,14 +66,15 @@ fn results_room() -> [u16; 16384]
 
 pub fn print_list(
     page: &mut [u8],
-    algebra: Algebra,
+    algebras: &[u16],
     order: usize,
     sizes: &[u16],
     weights: &[u16],
 ) -> usize
-    requires { ⌜ ListAccepted (jobsOf algebra order (now sizes) (now weights)) ⌝ }
+    requires { ⌜ ListAccepted (jobsOf (now algebras) order (now sizes) (now weights)) ⌝ }
     ensures { λ r. ⌜ Put (now (page .entry)) 0
-        (sheetFrom (jobsOf algebra order (now (sizes .entry)) (now (weights .entry))) (wholeRun algebra order (now (sizes .entry)) (now (weights .entry))))
+        (sheetFrom (jobsOf (now (algebras .entry)) order (now (sizes .entry)) (now (weights .entry)))
+        (wholeRun (now (algebras .entry)) order (now (sizes .entry)) (now (weights .entry))))
         (now (page .exit)) r ⌝ }
 {
     let mut state = state_room();
@@ -84,7 +85,7 @@ pub fn print_list(
     let words = weights.len();
     print_run(
         page,
-        algebra,
+        algebras,
         order,
         sizes,
         weights,

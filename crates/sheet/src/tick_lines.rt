@@ -5,6 +5,7 @@ ghost use Rattle.text.specs.inner.Put.{Put};
 ghost use Rattle.sheet.specs.inner.Leaving.{leavingLine, LeavingFits, Printable, tickLines};
 use crate::lines::Entry;
 use crate::lines::put_entry;
+use job_list::algebra_of;
 use job_list::words_before;
 use semiring::Algebra;
 
@@ -64,14 +65,14 @@ fn put_rows(page: &mut [u8], at: usize, algebra: Algebra, l: Leaving, part: &[u1
 fn put_tick(
     page: &mut [u8],
     at: usize,
-    algebra: Algebra,
+    algebras: &[u16],
     order: usize,
     sizes: &[u16],
     results: &[u16],
     t: usize,
 ) -> usize
-    requires { ⌜ Printable algebra order (now sizes) (now results) × (t < 65535) ⌝ }
-    ensures { λ r. ⌜ Put (now (page .entry)) at (tickLines algebra order (now (sizes .entry)) (now (results .entry)) t) (now (page .exit)) r ⌝ }
+    requires { ⌜ Printable (now algebras) order (now sizes) (now results) × (t < 65535) ⌝ }
+    ensures { λ r. ⌜ Put (now (page .entry)) at (tickLines (now (algebras .entry)) order (now (sizes .entry)) (now (results .entry)) t) (now (page .exit)) r ⌝ }
 {
     let span = 4 * order;
     if t + 1 < span {
@@ -82,6 +83,7 @@ fn put_tick(
     if sizes.len() <= job {
         return at;
     }
+    let algebra = algebra_of(algebras, job);
     let size = sizes[job] as usize;
     let start = words_before(sizes, job);
     let end = start + size * size;
@@ -97,19 +99,19 @@ fn put_tick(
 pub fn put_ticks(
     page: &mut [u8],
     at: usize,
-    algebra: Algebra,
+    algebras: &[u16],
     order: usize,
     sizes: &[u16],
     results: &[u16],
     ticks: usize,
 ) -> usize
-    requires { ⌜ Printable algebra order (now sizes) (now results) × (ticks ≤ 65535) ⌝ }
-    ensures { λ r. ⌜ Put (now (page .entry)) at (joined ticks (tickLines algebra order (now (sizes .entry)) (now (results .entry)))) (now (page .exit)) r ⌝ }
+    requires { ⌜ Printable (now algebras) order (now sizes) (now results) × (ticks ≤ 65535) ⌝ }
+    ensures { λ r. ⌜ Put (now (page .entry)) at (joined ticks (tickLines (now (algebras .entry)) order (now (sizes .entry)) (now (results .entry)))) (now (page .exit)) r ⌝ }
 {
     let mut next = at;
     let mut t = 0;
     while t < ticks {
-        next = put_tick(page, next, algebra, order, sizes, results, t);
+        next = put_tick(page, next, algebras, order, sizes, results, t);
         t += 1;
     }
     next

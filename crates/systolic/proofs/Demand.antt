@@ -5,9 +5,6 @@ use native.Mathlib.Omega.{arith}
 use mathlib.Core.Path.{_≡_, ap, _∙_}
 use mathlib.Core.List.{List}
 use lib.ListN.{length-replicate}
-use Rattle.semiring.specs.declared.Algebra.{Algebra}
-use Rattle.semiring.specs.declared.Named.the-variants.{Known}
-use Rattle.semiring.specs.Named.{namedOf}
 use Rattle.job_list.specs.Fits.{ListAccepted}
 use Rattle.job_list.specs.Jobs.{Jobs, count, jobsOf}
 use Rattle.systolic.specs.Tick.{Array, ticks}
@@ -15,6 +12,7 @@ use Rattle.systolic.specs.State.{stateWords, planesOf}
 use Rattle.systolic.specs.Start.{startTests, started, stateAfterStart, zeroPlanes}
 use Rattle.systolic.specs.claims.Demand.{Call, Runs, runs, Claim, Demand3}
 use Rattle.job_list.proofs.Places.{entry-find}
+use Rattle.job_list.proofs.Fits.{algebra-named}
 use Rattle.systolic.specs.Cell.{Sized}
 use Rattle.systolic.proofs.Ticks.{Reached, reached}
 use Rattle.systolic.proofs.Started.{started-by}
@@ -31,18 +29,18 @@ abbrev fresh : ℕ → List ℕ → Array
 fresh order results = record { planes = zeroPlanes order; results = results }
 
 -- The state that start left.
-abbrev begun : Jobs → ℕ → List ℕ
-begun J algebra = stateWords (J .order) algebra (count J) 0 (zeroPlanes (J .order))
+abbrev begun : Jobs → List ℕ
+begun J = stateWords (J .order) (count J) 0 (zeroPlanes (J .order))
 
-claimed : {J : Jobs} {algebra : ℕ} {calls : List Call} {results : List ℕ} {after : Runs}
+claimed : {J : Jobs} {calls : List Call} {results : List ℕ} {after : Runs}
     → ((T : ℕ) → Reached J results T (ticks J 0 T (fresh (J .order) results)))
-    → After J algebra (fresh (J .order) results) 0 calls after → Claim J (begun J algebra) calls results after
+    → After J (fresh (J .order) results) 0 calls after → Claim J (begun J) calls results after
 unfolding ticks
-claimed {J} {algebra} {calls} {results} {after} reached run =
-    let planes : planesOf (begun J algebra) ≡ zeroPlanes (J .order) =
-    planesOf-stateWords (J .order) algebra (count J) 0 (zeroPlanes (J .order)) (zero-sized (J .order)) in
+claimed {J} {calls} {results} {after} reached run =
+    let planes : planesOf (begun J) ≡ zeroPlanes (J .order) =
+    planesOf-stateWords (J .order) (count J) 0 (zeroPlanes (J .order)) (zero-sized (J .order)) in
     let state : after .state
-    ≡ stateWords (J .order) algebra (count J) (after .made) (ticks J 0 (after .made) (fresh (J .order) results) .planes) =
+    ≡ stateWords (J .order) (count J) (after .made) (ticks J 0 (after .made) (fresh (J .order) results) .planes) =
     rw (zero-add (after .made)) at (run .state) in
     let words : after .results ≡ ticks J 0 (after .made) (fresh (J .order) results) .results =
     rw (zero-add (after .made)) at (run .results) in
@@ -62,30 +60,30 @@ claimed {J} {algebra} {calls} {results} {after} reached run =
           let none : after .made ≡ 0 = omega (arith, run .made, run .unfit d) in (
             none,
             state
-                ∙ ap (λ (T : ℕ). stateWords (J .order) algebra (count J) T (ticks J 0 T (fresh (J .order) results) .planes)) none,
+                ∙ ap (λ (T : ℕ). stateWords (J .order) (count J) T (ticks J 0 T (fresh (J .order) results) .planes)) none,
             words ∙ ap (λ (T : ℕ). ticks J 0 T (fresh (J .order) results) .results) none,
             run .scratches ∙ scratches-unfit (J .order) (J .sizes) results d calls,
           );
     }
 
-module _ {a : Algebra} {order : ℕ} {sizes weights : List ℕ} (list : ListAccepted (jobsOf a order sizes weights)) (algebra : ℕ)
-    (named : namedOf algebra ≡ Known a) (calls : List Call) (results : List ℕ) where
+module _ {algebras : List ℕ} {order : ℕ} {sizes weights : List ℕ} (list : ListAccepted (jobsOf algebras order sizes weights))
+    (calls : List Call) (results : List ℕ) where
   pub started-claim :
-      Claim (jobsOf a order sizes weights) (started algebra order sizes) calls results
-      (runs sizes weights calls (started algebra order sizes) results)
+      Claim (jobsOf algebras order sizes weights) (started order sizes) calls results
+      (runs algebras sizes weights calls (started order sizes) results)
   unfolding ticks
   started-claim =
       claimed (λ T. reached list T (fresh order results))
-      (runs-after list algebra named (fresh order results) (zero-sized order) calls 0 zero-le)
+      (runs-after list (fresh order results) (zero-sized order) calls 0 zero-le)
 
 -- The same from what start leaves in a state that was lent to it.
-pub start-claim : {a : Algebra} (algebra order : ℕ) (sizes weights state : List ℕ) → startTests (namedOf algebra) order sizes weights state ≡ 0
-    → ListAccepted (jobsOf a order sizes weights) → namedOf algebra ≡ Known a → (calls : List Call) (results : List ℕ)
-    → (let begun = stateAfterStart algebra order sizes weights state in
-    Claim (jobsOf a order sizes weights) begun calls results (runs sizes weights calls begun results))
-start-claim algebra order sizes weights state e list named calls results = rw e (started-claim list algebra named calls results)
+pub start-claim : (algebras : List ℕ) (order : ℕ) (sizes weights state : List ℕ) → startTests algebras order sizes weights state ≡ 0
+    → (calls : List Call) (results : List ℕ)
+    → (let begun = stateAfterStart algebras order sizes weights state in
+    Claim (jobsOf algebras order sizes weights) begun calls results (runs algebras sizes weights calls begun results))
+start-claim algebras order sizes weights state e calls results =
+    rw e (started-claim (started-by algebras order sizes weights state e) calls results)
 
 pub demand3 : Demand3
-demand3 algebra order sizes weights state e =
-    let (a, named, list) = started-by (namedOf algebra) order sizes weights state e in
-    (a, named, start-claim algebra order sizes weights state e list named)
+demand3 algebras order sizes weights state e =
+    (algebra-named (started-by algebras order sizes weights state e), start-claim algebras order sizes weights state e)

@@ -12,7 +12,7 @@ use Rattle.semiring.proofs.Order.{AsGood}
 use Rattle.closure.specs.Elimination.{passes}
 use Rattle.closure.proofs.Holds.{rowByRow-holds}
 use Rattle.job_list.specs.Fits.{ListAccepted}
-use Rattle.job_list.specs.Jobs.{Jobs}
+use Rattle.job_list.specs.Jobs.{Jobs, algebra}
 use Rattle.systolic.specs.Feeder.{fed}
 use Rattle.systolic.specs.Cell.{Planes, Cell, cellOf, aIn, bIn, cIn, newC, stepped}
 use Rattle.systolic.specs.Tick.{cellAfter, planesAfter}
@@ -34,21 +34,21 @@ use Rattle.systolic.proofs.Registers.{
 
 -- c of cell (i, j) after n steps for job q; a word of entry (i, j) that has passed v cells for it.
 abbrev StayingIn : Jobs → ℕ → ℕ → ℕ → ℕ → ℕ → Type 0
-StayingIn J q i j n x = Staying (J .algebra q) (fed J q) (J .order) i j n x
+StayingIn J q i j n x = Staying (algebra J q) (fed J q) (J .order) i j n x
 
 abbrev MovingIn : Jobs → ℕ → ℕ → ℕ → ℕ → ℕ → ℕ → Type 0
-MovingIn J q key i j v x = Moving (J .algebra q) (fed J q) (J .order) key i j v x
+MovingIn J q key i j v x = Moving (algebra J q) (fed J q) (J .order) key i j v x
 
 abbrev Done : Jobs → ℕ → ℕ → ℕ → ℕ → Type 0
-Done J q i j x = AsGood (J .algebra q) x (passes (J .algebra q) (fed J q) (J .order) i j)
+Done J q i j x = AsGood (algebra J q) x (passes (algebra J q) (fed J q) (J .order) i j)
 
 -- What cell (i, j) holds after step k of pass p of job q.
 pub record Held (J : Jobs) (q p k i j : ℕ) (x : Cell) : Type 0 where
-  pub c : Staying (J .algebra q) (fed J q) (J .order) i j (J .order * p + k + 1) (x .c)
-  pub a : Moving (J .algebra q) (fed J q) (J .order) k i k (J .order * p + j + 1) (x .a)
-  pub b : Moving (J .algebra q) (fed J q) (J .order) k k j (J .order * p + i + 1) (x .b)
+  pub c : Staying (algebra J q) (fed J q) (J .order) i j (J .order * p + k + 1) (x .c)
+  pub a : Moving (algebra J q) (fed J q) (J .order) k i k (J .order * p + j + 1) (x .a)
+  pub b : Moving (algebra J q) (fed J q) (J .order) k k j (J .order * p + i + 1) (x .b)
   -- in the fourth pass, from cell (i, k) on, a is as good as the elimination
-  pub out : p ≡ 3 → k ≤ j → AsGood (J .algebra q) (x .a) (passes (J .algebra q) (fed J q) (J .order) i k)
+  pub out : p ≡ 3 → k ≤ j → AsGood (algebra J q) (x .a) (passes (algebra J q) (fed J q) (J .order) i k)
 
 -- T ticks are made, and r are the planes.
 pub record Invariant (J : Jobs) (T : ℕ) (r : Planes) : Type 0 where

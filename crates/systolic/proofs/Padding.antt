@@ -18,7 +18,7 @@ use Rattle.closure.proofs.Equations.{passes-none, passes-next, closure-passes}
 use Rattle.closure.proofs.Links.{Links, withOwn-links}
 use Rattle.closure.proofs.Passes.{passes-word}
 use Rattle.job_list.specs.Fits.{ListAccepted}
-use Rattle.job_list.specs.Jobs.{Jobs, count, size, jobWeights}
+use Rattle.job_list.specs.Jobs.{Jobs, count, size, jobWeights, algebra}
 use Rattle.systolic.specs.Feeder.{paddedTable, fed}
 
 module _ (a : Algebra) (n : ℕ) (w : List ℕ) (words : (p : ℕ) → Word a (getD w p 0)) where
@@ -90,10 +90,10 @@ module _ (a : Algebra) (n : ℕ) (w : List ℕ) (words : (p : ℕ) → Word a (g
       rw (closure-passes a n w) (outer-passes m i j h hi hj ∙ inner-passes n i j (omega arith) hi hj)
 
 module _ {J : Jobs} (list : ListAccepted J) where
-  pub fed-links : (q : ℕ) → Links (J .algebra q) (fed J q)
-  fed-links q = padded-links (J .algebra q) (size J q) (jobWeights J q) (list .words q)
+  pub fed-links : (q : ℕ) → Links (algebra J q) (fed J q)
+  fed-links q = padded-links (algebra J q) (size J q) (jobWeights J q) (list .words q)
 
   -- The passes of the fed table give the job's own elimination.
   pub fed-passes : {q i k : ℕ} → q < count J → i < size J q → k < size J q
-      → passes (J .algebra q) (fed J q) (J .order) i k ≡ closure (J .algebra q) (size J q) (jobWeights J q) i k
-  fed-passes {q} {i} {k} hq = padded-passes (J .algebra q) (size J q) (jobWeights J q) (list .words q) i k (list .fits .sizes-fit q hq .1)
+      → passes (algebra J q) (fed J q) (J .order) i k ≡ closure (algebra J q) (size J q) (jobWeights J q) i k
+  fed-passes {q} {i} {k} hq = padded-passes (algebra J q) (size J q) (jobWeights J q) (list .words q) i k (list .fits .sizes-fit q hq .1)

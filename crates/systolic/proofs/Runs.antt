@@ -10,63 +10,60 @@ use mathlib.Core.Bool.{Bool, true, false, cond, not}
 use lib.ListN.{length, replicate}
 use lib.Dec.{eqb}
 use borrow.Author.Tests.{le-ltb, eq-eqb, ne-eqb}
-use Rattle.semiring.specs.declared.Algebra.{Algebra}
-use Rattle.semiring.specs.declared.Named.the-variants.{Known}
-use Rattle.semiring.specs.Named.{namedOf}
 use Rattle.job_list.specs.Jobs.{Jobs, count, wordsOf, jobsOf}
 use Rattle.systolic.specs.Cell.{Planes, Sized}
 use Rattle.systolic.specs.Tick.{Array, ticks}
 use Rattle.systolic.specs.State.{stateWords, stateLength, scratchLength, total}
-use Rattle.systolic.specs.Run.{Ran, badState, runTests, ranOn, refusedRun, ranBy, ran}
+use Rattle.systolic.specs.Run.{Ran, badState, runTests, ranOn, refusedRun, ran}
 use Rattle.systolic.specs.claims.Demand.{Call, Runs, runs, numberDue, scratchDue}
 use Rattle.systolic.proofs.Ticks.{ticks-add, ticks-sized, reached}
 use Rattle.job_list.specs.Fits.{ListAccepted}
-use Rattle.job_list.proofs.Fits.{order-passes, count-passes, sizes-pass, words-pass}
+use Rattle.job_list.proofs.Fits.{order-passes, count-passes, numbers-pass, sizes-pass, words-pass}
 use Rattle.systolic.proofs.State.{stateWords-length, planesOf-stateWords}
 
 -- What an accepted run answers and leaves that brings the array to m.
-abbrev pub acceptedRun : ℕ → ℕ → ℕ → ℕ → ℕ → List ℕ → Array → Ran
-acceptedRun order algebra count tick made scratch m = record {
+abbrev pub acceptedRun : ℕ → ℕ → ℕ → ℕ → List ℕ → Array → Ran
+acceptedRun order count tick made scratch m = record {
   number = 0;
   made = made;
-  state = stateWords order algebra count tick (m .planes);
+  state = stateWords order count tick (m .planes);
   results = m .results;
   scratch = replicate (length scratch) 0;
 }
 
-module _ {a : Algebra} {order : ℕ} {sizes weights : List ℕ} (list : ListAccepted (jobsOf a order sizes weights))
-    (algebra : ℕ) (named : namedOf algebra ≡ Known a) (T : ℕ) (r : Planes) (sized : Sized order r)
+module _ {algebras : List ℕ} {order : ℕ} {sizes weights : List ℕ} (list : ListAccepted (jobsOf algebras order sizes weights)) (T : ℕ) (r : Planes) (sized : Sized order r)
     (within : T ≤ total order (length sizes)) where
-  state-good : badState (stateWords order algebra (length sizes) T r) ≡ false
+  state-good : badState (stateWords order (length sizes) T r) ≡ false
   state-good =
-      let words : List ℕ = stateWords order algebra (length sizes) T r in
+      let words : List ℕ = stateWords order (length sizes) T r in
       let long = le-ltb (length words) 4 (omega arith) in
-      let fits = eq-eqb (length words) (stateLength order) (stateWords-length order algebra (length sizes) T r sized) in
+      let fits = eq-eqb (length words) (stateLength order) (stateWords-length order (length sizes) T r sized) in
       rw (long, order-passes (list .fits), count-passes (list .fits), fits, le-ltb (total order (length sizes)) T within)
 
   run-tests : (scratch results : List ℕ)
-      → runTests (Known a) (stateWords order algebra (length sizes) T r) sizes weights scratch results ≡ numberDue order sizes scratch results
+      → runTests (stateWords order (length sizes) T r) algebras sizes weights scratch results ≡ numberDue order sizes scratch results
   run-tests scratch results =
       let jobs = eq-eqb (length sizes) (length sizes) refl in
+      let one-each = eq-eqb (length algebras) (length sizes) (list .fits .algebras-fit) in
       let fits = eq-eqb (length weights) (wordsOf sizes) (list .weights-fit) in
-      rw (state-good, jobs, sizes-pass (list .fits), fits, words-pass list)
+      rw (state-good, jobs, one-each, numbers-pass list, sizes-pass (list .fits), fits, words-pass list)
 
   -- A run that is accepted, and one that is refused.
   pub run-accepted : (allowance : ℕ) (scratch results : List ℕ) → numberDue order sizes scratch results ≡ 0
-      → ran (stateWords order algebra (length sizes) T r) sizes weights allowance scratch results
+      → ran (stateWords order (length sizes) T r) algebras sizes weights allowance scratch results
       ≡ (let made = min allowance (total order (length sizes) - T) in
-      acceptedRun order algebra (length sizes) (T + made) made scratch
-      (ticks (jobsOf a order sizes weights) T made (record { planes = r; results = results })))
-  unfolding ranBy ranOn
+      acceptedRun order (length sizes) (T + made) made scratch
+      (ticks (jobsOf algebras order sizes weights) T made (record { planes = r; results = results })))
+  unfolding ran ranOn
   run-accepted allowance scratch results e =
-      rw (named, run-tests scratch results, e, planesOf-stateWords order algebra (length sizes) T r sized)
+      rw (run-tests scratch results, e, planesOf-stateWords order (length sizes) T r sized)
 
   pub run-refused : (allowance : ℕ) (scratch results : List ℕ) → (numberDue order sizes scratch results ≡ 0 → ⊥)
-      → ran (stateWords order algebra (length sizes) T r) sizes weights allowance scratch results
-      ≡ refusedRun (numberDue order sizes scratch results) (stateWords order algebra (length sizes) T r) scratch results
-  unfolding ranBy
+      → ran (stateWords order (length sizes) T r) algebras sizes weights allowance scratch results
+      ≡ refusedRun (numberDue order sizes scratch results) (stateWords order (length sizes) T r) scratch results
+  unfolding ran
   run-refused allowance scratch results d =
-      rw (named, run-tests scratch results, ne-eqb (numberDue order sizes scratch results) 0 d)
+      rw (run-tests scratch results, ne-eqb (numberDue order sizes scratch results) 0 d)
 
 -- A list's first run and the rest.
 abbrev joined : Call → Ran → Runs → Runs
@@ -79,21 +76,21 @@ joined call one rest = record {
   scratches = one .scratch ∷ rest .scratches;
 }
 
-runs-cons : (sizes weights : List ℕ) (call : Call) (calls : List Call) (state results : List ℕ) {one : Ran}
-    → ran state sizes weights (call .allowance) (call .scratch) results ≡ one
-    → runs sizes weights (call ∷ calls) state results ≡ joined call one (runs sizes weights calls (one .state) (one .results))
+runs-cons : (algebras sizes weights : List ℕ) (call : Call) (calls : List Call) (state results : List ℕ) {one : Ran}
+    → ran state algebras sizes weights (call .allowance) (call .scratch) results ≡ one
+    → runs algebras sizes weights (call ∷ calls) state results ≡ joined call one (runs algebras sizes weights calls (one .state) (one .results))
 unfolding runs
-runs-cons sizes weights call calls state results =
-    ap (λ (one : Ran). joined call one (runs sizes weights calls (one .state) (one .results)))
+runs-cons algebras sizes weights call calls state results =
+    ap (λ (one : Ran). joined call one (runs algebras sizes weights calls (one .state) (one .results)))
 
 -- What a list of runs leaves that begins after T ticks from the array x.
-pub record After (J : Jobs) (algebra : ℕ) (x : Array) (T : ℕ) (calls : List Call) (after : Runs) : Type 0 where
+pub record After (J : Jobs) (x : Array) (T : ℕ) (calls : List Call) (after : Runs) : Type 0 where
   pub numbers : after .numbers ≡ map (λ (call : Call). numberDue (J .order) (J .sizes) (call .scratch) (x .results)) calls
   pub scratches : after .scratches ≡ map (λ (call : Call). scratchDue (J .order) (J .sizes) (call .scratch) (x .results)) calls
   pub made : T + after .made ≡ min (T + after .allowed) (total (J .order) (count J))
   pub state :
       after .state
-      ≡ stateWords (J .order) algebra (count J) (T + after .made) (ticks J 0 (T + after .made) x .planes)
+      ≡ stateWords (J .order) (count J) (T + after .made) (ticks J 0 (T + after .made) x .planes)
   pub results : after .results ≡ ticks J 0 (T + after .made) x .results
   pub unfit : (length (x .results) ≡ wordsOf (J .sizes) → ⊥) → after .allowed ≡ 0
 
@@ -118,15 +115,15 @@ scratches-unfit order sizes results d (call ∷ calls) =
     )
 
 -- One run in front of a list: the ticks it may make, where it is accepted.
-module _ {J : Jobs} {algebra : ℕ} {x : Array} {T : ℕ} (call : Call) {calls : List Call} (one : Ran) {rest : Runs}
+module _ {J : Jobs} {x : Array} {T : ℕ} (call : Call) {calls : List Call} (one : Ran) {rest : Runs}
     (within : T ≤ total (J .order) (count J))
     (number : one .number ≡ numberDue (J .order) (J .sizes) (call .scratch) (x .results))
     (scratch : one .scratch ≡ scratchDue (J .order) (J .sizes) (call .scratch) (x .results))
-    (after : After J algebra x (T + one .made) calls rest) where
+    (after : After J x (T + one .made) calls rest) where
   after-one :
       T + (one .made + rest .made)
       ≡ min (T + (cond (eqb (one .number) 0) (call .allowance) 0 + rest .allowed)) (total (J .order) (count J))
-      → After J algebra x T (call ∷ calls) (joined call one rest)
+      → After J x T (call ∷ calls) (joined call one rest)
   after-one made =
       let e : T + (one .made + rest .made) ≡ T + one .made + rest .made = omega arith in
       record {
@@ -141,20 +138,19 @@ module _ {J : Jobs} {algebra : ℕ} {x : Array} {T : ℕ} (call : Call) {calls :
       }
 
   after-accepted : one .number ≡ 0 → one .made ≡ min (call .allowance) (total (J .order) (count J) - T)
-      → After J algebra x T (call ∷ calls) (joined call one rest)
+      → After J x T (call ∷ calls) (joined call one rest)
   after-accepted e made = after-one (rw (eq-eqb (one .number) 0 e) (omega (arith, after .made)))
 
-  after-refused : (one .number ≡ 0 → ⊥) → one .made ≡ 0 → After J algebra x T (call ∷ calls) (joined call one rest)
+  after-refused : (one .number ≡ 0 → ⊥) → one .made ≡ 0 → After J x T (call ∷ calls) (joined call one rest)
   after-refused d made = after-one (rw (ne-eqb (one .number) 0 d) (omega (arith, after .made)))
 
-module _ {a : Algebra} {order : ℕ} {sizes weights : List ℕ} (list : ListAccepted (jobsOf a order sizes weights))
-    (algebra : ℕ) (named : namedOf algebra ≡ Known a) (x : Array) (sized : Sized order (x .planes)) where
+module _ {algebras : List ℕ} {order : ℕ} {sizes weights : List ℕ} (list : ListAccepted (jobsOf algebras order sizes weights)) (x : Array) (sized : Sized order (x .planes)) where
   -- the array, the state and the results after T ticks
   abbrev arrayAt : ℕ → Array
-  arrayAt T = ticks (jobsOf a order sizes weights) 0 T x
+  arrayAt T = ticks (jobsOf algebras order sizes weights) 0 T x
 
   abbrev stateAt : ℕ → List ℕ
-  stateAt T = stateWords order algebra (length sizes) T (arrayAt T .planes)
+  stateAt T = stateWords order (length sizes) T (arrayAt T .planes)
 
   abbrev resultsAt : ℕ → List ℕ
   resultsAt T = arrayAt T .results
@@ -162,10 +158,10 @@ module _ {a : Algebra} {order : ℕ} {sizes weights : List ℕ} (list : ListAcce
   -- a list of runs that begins there
   abbrev RunsFrom : List Call → ℕ → Type 0
   RunsFrom calls T =
-      After (jobsOf a order sizes weights) algebra x T calls (runs sizes weights calls (stateAt T) (resultsAt T))
+      After (jobsOf algebras order sizes weights) x T calls (runs algebras sizes weights calls (stateAt T) (resultsAt T))
 
   sized-at : (T : ℕ) → Sized order (arrayAt T .planes)
-  sized-at T = ticks-sized (jobsOf a order sizes weights) 0 T x sized
+  sized-at T = ticks-sized (jobsOf algebras order sizes weights) 0 T x sized
 
   runs-none : (T : ℕ) → T ≤ total order (length sizes) → RunsFrom [] T
   unfolding runs
@@ -188,45 +184,45 @@ module _ {a : Algebra} {order : ℕ} {sizes weights : List ℕ} (list : ListAcce
 
     -- what the run answers and leaves, accepted and refused
     abbrev taken : ℕ → Ran
-    taken made = acceptedRun order algebra (length sizes) (T + made) made (call .scratch) (arrayAt (T + made))
+    taken made = acceptedRun order (length sizes) (T + made) made (call .scratch) (arrayAt (T + made))
 
     abbrev turned : Ran
     turned = record { number = due; made = 0; state = stateAt T; results = resultsAt T; scratch = call .scratch }
 
-    more : (made : ℕ) → ticks (jobsOf a order sizes weights) T made (arrayAt T) ≡ arrayAt (T + made)
-    more made = rw (ticks-add (jobsOf a order sizes weights) 0 T made x, zero-add T)
+    more : (made : ℕ) → ticks (jobsOf algebras order sizes weights) T made (arrayAt T) ≡ arrayAt (T + made)
+    more made = rw (ticks-add (jobsOf algebras order sizes weights) 0 T made x, zero-add T)
 
     run-taken : due ≡ 0
-        → ran (stateAt T) sizes weights (call .allowance) (call .scratch) (resultsAt T)
+        → ran (stateAt T) algebras sizes weights (call .allowance) (call .scratch) (resultsAt T)
         ≡ taken (min (call .allowance) (total order (length sizes) - T))
     run-taken e =
         let made : ℕ = min (call .allowance) (total order (length sizes) - T) in
-        run-accepted list algebra named T (arrayAt T .planes) (sized-at T) within (call .allowance) (call .scratch) (resultsAt T)
+        run-accepted list T (arrayAt T .planes) (sized-at T) within (call .allowance) (call .scratch) (resultsAt T)
         (due-kept ∙ e)
-        ∙ ap (acceptedRun order algebra (length sizes) (T + made) made (call .scratch)) (more made)
+        ∙ ap (acceptedRun order (length sizes) (T + made) made (call .scratch)) (more made)
 
-    run-turned : (due ≡ 0 → ⊥) → ran (stateAt T) sizes weights (call .allowance) (call .scratch) (resultsAt T) ≡ turned
+    run-turned : (due ≡ 0 → ⊥) → ran (stateAt T) algebras sizes weights (call .allowance) (call .scratch) (resultsAt T) ≡ turned
     unfolding refusedRun
     run-turned d =
         rw (← due-kept)
-        (run-refused list algebra named T (arrayAt T .planes) (sized-at T) within (call .allowance) (call .scratch) (resultsAt T)
+        (run-refused list T (arrayAt T .planes) (sized-at T) within (call .allowance) (call .scratch) (resultsAt T)
         (λ e. d (sym due-kept ∙ e)))
 
     runs-one : (calls : List Call) → ((U : ℕ) → U ≤ total order (length sizes) → RunsFrom calls U) → Dec (due ≡ 0)
         → RunsFrom (call ∷ calls) T
     runs-one calls f (yes e) =
         let made : ℕ = min (call .allowance) (total order (length sizes) - T) in
-        rw (runs-cons sizes weights call calls (stateAt T) (resultsAt T) (run-taken e))
+        rw (runs-cons algebras sizes weights call calls (stateAt T) (resultsAt T) (run-taken e))
         (after-accepted call (taken made) within (sym e) (rw (eq-eqb due 0 e)) (f (T + made) (omega arith)) refl refl)
     runs-one calls f (no d) =
-        rw (runs-cons sizes weights call calls (stateAt T) (resultsAt T) (run-turned d))
+        rw (runs-cons algebras sizes weights call calls (stateAt T) (resultsAt T) (run-turned d))
         (after-refused call turned within refl (rw (ne-eqb due 0 d)) (rw (add-zero T) (f T within)) d refl)
 
   pub runs-after : (calls : List Call) (T : ℕ) → T ≤ total order (length sizes)
-      → After (jobsOf a order sizes weights) algebra x T calls
-      (runs sizes weights calls
-      (stateWords order algebra (length sizes) T (ticks (jobsOf a order sizes weights) 0 T x .planes))
-      (ticks (jobsOf a order sizes weights) 0 T x .results))
+      → After (jobsOf algebras order sizes weights) x T calls
+      (runs algebras sizes weights calls
+      (stateWords order (length sizes) T (ticks (jobsOf algebras order sizes weights) 0 T x .planes))
+      (ticks (jobsOf algebras order sizes weights) 0 T x .results))
   runs-after [] T within = runs-none T within
   runs-after (call ∷ calls) T within =
       runs-one call T within calls (runs-after calls) (ℕ-discrete (numberDue order sizes (call .scratch) (x .results)) 0)

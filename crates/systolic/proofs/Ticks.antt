@@ -14,7 +14,7 @@ use Rattle.semiring.proofs.Order.{good-antisym}
 use Rattle.closure.specs.Elimination.{closure}
 use Rattle.closure.proofs.Holds.{rowByRow-holds}
 use Rattle.job_list.specs.Fits.{ListAccepted}
-use Rattle.job_list.specs.Jobs.{Jobs, size, wordsOf, jobWeights, place, Entry}
+use Rattle.job_list.specs.Jobs.{Jobs, size, wordsOf, jobWeights, place, Entry, algebra}
 use Rattle.systolic.specs.Cell.{Planes, Sized, cellOf}
 use Rattle.systolic.specs.Tick.{Array, cellAfter, planesAfter, emittedRows, ticked, ticks, leaves}
 use Rattle.systolic.proofs.Padding.{fed-passes}
@@ -51,12 +51,12 @@ pub record Reached (J : Jobs) (old : List ℕ) (T : ℕ) (m : Array) : Type 0 wh
   pub length-kept : length (m .results) ≡ length old
   pub entry : {q i k : ℕ} → length old ≡ wordsOf (J .sizes) → Entry J q i k
       → getD (m .results) (place J q i k) 0
-      ≡ cond (ltb (leaves J q i k) T) (closure (J .algebra q) (size J q) (jobWeights J q) i k) (getD old (place J q i k) 0)
+      ≡ cond (ltb (leaves J q i k) T) (closure (algebra J q) (size J q) (jobWeights J q) i k) (getD old (place J q i k) 0)
 
 module _ {J : Jobs} (list : ListAccepted J) where
   -- What leaves cell (i, N - 1) in the fourth pass.
   out-word : {T : ℕ} {r : Planes} {q i k : ℕ} → Invariant J (T + 1) r → Entry J q i k → leaves J q i k ≡ T
-      → cellOf J r i (J .order - 1) .a ≡ closure (J .algebra q) (size J q) (jobWeights J q) i k
+      → cellOf J r i (J .order - 1) .a ≡ closure (algebra J q) (size J q) (jobWeights J q) i k
   out-word {T} {r} {q} {i} {k} inv at e =
       let fits : size J q ≤ J .order = list .fits .sizes-fit q (at .job) .1 in
       let least = list .fits .ranged .least in
@@ -90,7 +90,7 @@ module _ {J : Jobs} (list : ListAccepted J) where
 
       go : {q i k : ℕ} → length old ≡ wordsOf (J .sizes) → Entry J q i k → Dec (leaves J q i k ≡ T)
           → getD (emittedRows J T new (J .order) (m .results)) (place J q i k) 0
-          ≡ cond (ltb (leaves J q i k) (T + 1)) (closure (J .algebra q) (size J q) (jobWeights J q) i k) (getD old (place J q i k) 0)
+          ≡ cond (ltb (leaves J q i k) (T + 1)) (closure (algebra J q) (size J q) (jobWeights J q) i k) (getD old (place J q i k) 0)
       go {q} {i} {k} fits at (yes e) =
           let fit-order = list .fits .sizes-fit q (at .job) .1 in
           let inside : place J q i k < length (m .results) = omega (arith, before .length-kept, entry-below at) in

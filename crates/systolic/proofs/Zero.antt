@@ -9,13 +9,9 @@ use lib.ListN.{length, take, drop, take-append-drop, length-drop}
 use lib.Seq.{drop-drop, take-all}
 use borrow.Author.Tests.{ltb-false}
 use Rattle.refusals.proofs.First.{none-applied, none-of, equal}
-use Rattle.semiring.specs.Named.{namedOf}
-use Rattle.semiring.specs.declared.Algebra.{Algebra}
-use Rattle.semiring.specs.declared.Named.{Named}
-use Rattle.semiring.specs.declared.Named.the-variants.{Known, Unknown}
 use Rattle.systolic.specs.Tick.{ticks}
-use Rattle.systolic.specs.State.{stateWords, orderOf, algebraOf, countOf, tickOf, planesOf, stateLength}
-use Rattle.systolic.specs.Run.{badTests, badState, runTable, runTests, ranOn, ranBy, ticksMade}
+use Rattle.systolic.specs.State.{stateWords, orderOf, secondOf, countOf, tickOf, planesOf, stateLength}
+use Rattle.systolic.specs.Run.{badTests, badState, runTable, ranOn, ran, ticksMade}
 use Rattle.systolic.specs.claims.Zero.{Untouched, Zero-ticks}
 
 -- a list of three times as many words, in three parts
@@ -29,40 +25,37 @@ thirds area l long =
     ∙ take-append-drop area l
 
 -- a state's words are its header and its planes
-pub same-words : (state : List ℕ) → 4 ≤ length state → length state ≡ stateLength (orderOf state)
-    → stateWords (orderOf state) (algebraOf state) (countOf state) (tickOf state) (planesOf state) ≡ state
-same-words [] h long = absurd (omega arith)
-same-words (n ∷ []) h long = absurd (omega arith)
-same-words (n ∷ a ∷ []) h long = absurd (omega arith)
-same-words (n ∷ a ∷ q ∷ []) h long = absurd (omega arith)
-same-words (n ∷ a ∷ q ∷ t ∷ l) h long =
+pub same-words : (state : List ℕ) → 4 ≤ length state → secondOf state ≡ 0 → length state ≡ stateLength (orderOf state)
+    → stateWords (orderOf state) (countOf state) (tickOf state) (planesOf state) ≡ state
+same-words [] h zero long = absurd (omega arith)
+same-words (n ∷ []) h zero long = absurd (omega arith)
+same-words (n ∷ z ∷ []) h zero long = absurd (omega arith)
+same-words (n ∷ z ∷ q ∷ []) h zero long = absurd (omega arith)
+same-words (n ∷ z ∷ q ∷ t ∷ l) h zero long =
     let e₀ : 4 + 0 * (n * n) ≡ suc (suc (suc (suc 0))) = omega arith in
     let e₁ : 4 + 1 * (n * n) ≡ suc (suc (suc (suc (n * n)))) = omega arith in
     let e₂ : 4 + 2 * (n * n) ≡ suc (suc (suc (suc (n * n + n * n)))) = omega arith in
-    rw (e₀, e₁, e₂) (ap (λ (w : List ℕ). n ∷ a ∷ q ∷ t ∷ w) (thirds (n * n) l (omega arith)))
+    rw (e₀, e₁, e₂, zero) (ap (λ (w : List ℕ). n ∷ 0 ∷ q ∷ t ∷ w) (thirds (n * n) l (omega arith)))
 
-module _ (a : Algebra) (state sizes weights : List ℕ) (allowance : ℕ) (scratch results : List ℕ) where
+module _ (state algebras sizes weights : List ℕ) (allowance : ℕ) (scratch results : List ℕ) where
   accepted : badState state ≡ false → ticksMade state allowance ≡ 0
-      → Untouched state scratch results (ranOn a state sizes weights allowance scratch results)
+      → Untouched state scratch results (ranOn state algebras sizes weights allowance scratch results)
   unfolding ranOn ticks
   accepted good none =
-      let (short, (range, (jobs, (fits, (within, end))))) = none-of (badTests state) good in
+      let (short, (range, (zero, (jobs, (fits, (within, end)))))) = none-of (badTests state) good in
       let long : length state ≡ stateLength (orderOf state) = equal (length state) (stateLength (orderOf state)) fits in
       record {
         number = refl;
-        state-kept = rw (none, add-zero (tickOf state)) (same-words state (ltb-false (length state) 4 short) long);
+        state-kept =
+            rw (none, add-zero (tickOf state))
+            (same-words state (ltb-false (length state) 4 short) (equal (secondOf state) 0 zero) long);
         results-kept = rw none refl;
         scratch-zero = refl;
       }
 
-by : (d : Named) (state sizes weights : List ℕ) (allowance : ℕ) (scratch results : List ℕ) → runTests d state sizes weights scratch results ≡ 0
-    → ranBy d state sizes weights allowance scratch results .made ≡ 0
-    → Untouched state scratch results (ranBy d state sizes weights allowance scratch results)
-unfolding ranBy ranOn
-by Unknown state sizes weights allowance scratch results e none = absurd (omega arith)
-by (Known a) state sizes weights allowance scratch results e none =
-    let good = none-applied ((badState state, 10) ∷ runTable a (orderOf state) (countOf state) sizes weights scratch results) refl e .0 in
-    rw e (accepted a state sizes weights allowance scratch results good (rw e at none))
-
 pub zero-ticks : Zero-ticks
-zero-ticks state = by (namedOf (algebraOf state)) state
+unfolding ran ranOn
+zero-ticks state algebras sizes weights allowance scratch results e none =
+    let good =
+    none-applied ((badState state, 10) ∷ runTable (orderOf state) (countOf state) algebras sizes weights scratch results) refl e .0 in
+    rw e (accepted state algebras sizes weights allowance scratch results good (rw e at none))

@@ -7,7 +7,7 @@ use lib.ListN.{length}
 use lib.Dec.{eqb, ltb}
 use Rattle.semiring.specs.Algebra.{noneOf, sumOf, productOf}
 use Rattle.closure.specs.Table.{entries}
-use Rattle.job_list.specs.Jobs.{Jobs}
+use Rattle.job_list.specs.Jobs.{Jobs, algebra}
 use Rattle.systolic.specs.Feeder.{fed}
 
 -- The planes c, a and b: N by N words each, row by row.
@@ -47,14 +47,15 @@ module _ (J : Jobs) (r : Planes) (q p k : ℕ) where
   bIn zero j = cond (eqb p 0) (fed J q k j) (cellOf J r (J .order - 1) j .b)
   bIn (suc i) j = cellOf J r i j .b
 
-  -- "c starts as none when p = 0 and k = 0, else as c."
+  -- "c starts as none when p = 0 and k = 0, else as c." Request K8: "Cells use the algebra of the job they are on, for none, own, sum and
+  -- product."
   abbrev pub cIn : ℕ → ℕ → ℕ
-  cIn i j = cond (eqb p 0 && eqb k 0) (noneOf (J .algebra q)) (cellOf J r i j .c)
+  cIn i j = cond (eqb p 0 && eqb k 0) (noneOf (algebra J q)) (cellOf J r i j .c)
 
   -- "For p < 3 it becomes the sum of c and the product of a in and b in; for p = 3 it stays."
   abbrev pub newC : ℕ → ℕ → ℕ
   newC i j =
-      cond (ltb p 3) (sumOf (J .algebra q) (cIn i j) (productOf (J .algebra q) (aIn i j) (bIn i j))) (cIn i j)
+      cond (ltb p 3) (sumOf (algebra J q) (cIn i j) (productOf (algebra J q) (aIn i j) (bIn i j))) (cIn i j)
 
   -- "a becomes the new c if k = j, else a in. b becomes the new c if k = i and p < 3, else b in."
   abbrev pub stepped : ℕ → ℕ → Cell

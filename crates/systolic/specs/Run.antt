@@ -1,26 +1,22 @@
 -- Document 01: Run, its tests, the ticks that it makes, and state, results and scratch after it.
 use Prim.Native.Nat.{ℕ, _+_, _-_, min}
 use mathlib.Core.List.{List, [], _∷_}
-use mathlib.Core.Bool.{Bool, cond, not}
+use mathlib.Core.Bool.{Bool, cond, not, _||_}
 use lib.ListN.{length, replicate}
 use lib.Dec.{eqb, ltb}
-use Rattle.semiring.specs.Algebra.{topOf}
-use Rattle.semiring.specs.Named.{namedOf}
-use Rattle.semiring.specs.declared.Algebra.{Algebra}
-use Rattle.semiring.specs.declared.Named.{Named}
-use Rattle.semiring.specs.declared.Named.the-variants.{Known, Unknown}
 use Rattle.refusals.specs.Tests.{first, oneOf, outside}
-use Rattle.semiring.specs.Words.{anyAbove}
 use Rattle.job_list.specs.Jobs.{jobsOf, wordsOf}
 use Rattle.systolic.specs.Tick.{ticks}
-use Rattle.systolic.specs.State.{stateWords, orderOf, algebraOf, countOf, tickOf, planesOf, stateLength, scratchLength, total}
-use Rattle.job_list.specs.Fits.{anyOutside}
+use Rattle.systolic.specs.State.{stateWords, orderOf, secondOf, countOf, tickOf, planesOf, stateLength, scratchLength, total}
+use Rattle.job_list.specs.Fits.{anyUnknown, anyOutside, jobAbove}
 
--- "10 state shorter than 4, its N, algebra or Q out of range, its length wrong, or tick above the total": all but the algebra
+-- "10 state shorter than 4, its N, algebra or Q out of range, its length wrong, or tick above the total"; request K8: its second word
+-- "must be 0"
 abbrev pub badTests : List ℕ → List Bool
 badTests state =
     ltb (length state) 4
     ∷ outside 1 32 (orderOf state)
+    ∷ not (eqb (secondOf state) 0)
     ∷ outside 1 16 (countOf state)
     ∷ not (eqb (length state) (stateLength (orderOf state)))
     ∷ ltb (total (orderOf state) (countOf state)) (tickOf state)
@@ -29,21 +25,22 @@ badTests state =
 abbrev pub badState : List ℕ → Bool
 badState state = oneOf (badTests state)
 
--- "10 ..; 11 sizes not Q many; 8; 3; 12 scratch length; 4 results not the sum of n²; 5": of the order and the count in the state
-abbrev pub runTable : Algebra → ℕ → ℕ → List ℕ → List ℕ → List ℕ → List ℕ → List (Bool × ℕ)
-runTable a order count sizes weights scratch results =
-    (not (eqb (length sizes) count), 11)
+-- "10 ..; 11 sizes not Q many; 8; 3; 12 scratch length; 4 results not the sum of n²; 5": of the order and the count in the state. Request
+-- K8: test 1 "right after 11, where a list of algebras that is not Q long also gives 11"
+abbrev pub runTable : ℕ → ℕ → List ℕ → List ℕ → List ℕ → List ℕ → List ℕ → List (Bool × ℕ)
+runTable order count algebras sizes weights scratch results =
+    (not (eqb (length sizes) count) || not (eqb (length algebras) count), 11)
+    ∷ (anyUnknown algebras, 1)
     ∷ (anyOutside order sizes, 8)
     ∷ (not (eqb (length weights) (wordsOf sizes)), 3)
     ∷ (not (eqb (length scratch) (scratchLength order)), 12)
     ∷ (not (eqb (length results) (wordsOf sizes)), 4)
-    ∷ (anyAbove (topOf a) weights, 5)
+    ∷ (jobAbove algebras sizes weights, 5)
     ∷ []
 
-abbrev pub runTests : Named → List ℕ → List ℕ → List ℕ → List ℕ → List ℕ → ℕ
-runTests Unknown state sizes weights scratch results = 10
-runTests (Known a) state sizes weights scratch results =
-    first 0 ((badState state, 10) ∷ runTable a (orderOf state) (countOf state) sizes weights scratch results)
+abbrev pub runTests : List ℕ → List ℕ → List ℕ → List ℕ → List ℕ → List ℕ → ℕ
+runTests state algebras sizes weights scratch results =
+    first 0 ((badState state, 10) ∷ runTable (orderOf state) (countOf state) algebras sizes weights scratch results)
 
 -- "the smaller of its allowance and the ticks left"
 abbrev pub ticksMade : List ℕ → ℕ → ℕ
@@ -58,15 +55,15 @@ pub record Ran : Type 0 where
   pub scratch : List ℕ
 
 -- The accepted run: "Scratch .. is left zero by every accepted run."
-unfoldable pub ranOn : Algebra → List ℕ → List ℕ → List ℕ → ℕ → List ℕ → List ℕ → Ran
-ranOn a state sizes weights allowance scratch results =
-    let J = jobsOf a (orderOf state) sizes weights in
+unfoldable pub ranOn : List ℕ → List ℕ → List ℕ → List ℕ → ℕ → List ℕ → List ℕ → Ran
+ranOn state algebras sizes weights allowance scratch results =
+    let J = jobsOf algebras (orderOf state) sizes weights in
     let made = ticksMade state allowance in
     let m = ticks J (tickOf state) made (record { planes = planesOf state; results = results }) in
     record {
       number = 0;
       made = made;
-      state = stateWords (orderOf state) (algebraOf state) (countOf state) (tickOf state + made) (m .planes);
+      state = stateWords (orderOf state) (countOf state) (tickOf state + made) (m .planes);
       results = m .results;
       scratch = replicate (length scratch) 0;
     }
@@ -76,14 +73,10 @@ unfoldable pub refusedRun : ℕ → List ℕ → List ℕ → List ℕ → Ran
 refusedRun number state scratch results =
     record { number = number; made = 0; state = state; results = results; scratch = scratch }
 
-unfoldable pub ranBy : Named → List ℕ → List ℕ → List ℕ → ℕ → List ℕ → List ℕ → Ran
-ranBy Unknown state sizes weights allowance scratch results = refusedRun 10 state scratch results
-ranBy (Known a) state sizes weights allowance scratch results =
-    let number = runTests (Known a) state sizes weights scratch results in
-    cond (eqb number 0)
-    (ranOn a state sizes weights allowance scratch results)
-    (refusedRun number state scratch results)
-
 -- A call of Run.
-abbrev pub ran : List ℕ → List ℕ → List ℕ → ℕ → List ℕ → List ℕ → Ran
-ran state = ranBy (namedOf (algebraOf state)) state
+unfoldable pub ran : List ℕ → List ℕ → List ℕ → List ℕ → ℕ → List ℕ → List ℕ → Ran
+ran state algebras sizes weights allowance scratch results =
+    let number = runTests state algebras sizes weights scratch results in
+    cond (eqb number 0)
+    (ranOn state algebras sizes weights allowance scratch results)
+    (refusedRun number state scratch results)

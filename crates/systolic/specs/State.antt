@@ -4,15 +4,16 @@ use mathlib.Core.List.{List, _∷_, _++_}
 use lib.ListN.{getD, take, drop}
 use Rattle.systolic.specs.Cell.{Planes}
 
--- "State words: N, algebra, Q, tick, then planes c, a, b of N times N words, row by row."
-abbrev pub stateWords : ℕ → ℕ → ℕ → ℕ → Planes → List ℕ
-stateWords order algebra count tick r = order ∷ algebra ∷ count ∷ tick ∷ (r .c ++ (r .a ++ r .b))
+-- "State words: N, algebra, Q, tick, then planes c, a, b of N times N words, row by row." Request K8: "The algebra leaves the state's
+-- second word, which must be 0".
+abbrev pub stateWords : ℕ → ℕ → ℕ → Planes → List ℕ
+stateWords order count tick r = order ∷ 0 ∷ count ∷ tick ∷ (r .c ++ (r .a ++ r .b))
 
 abbrev pub orderOf : List ℕ → ℕ
 orderOf state = getD state 0 0
 
-abbrev pub algebraOf : List ℕ → ℕ
-algebraOf state = getD state 1 0
+abbrev pub secondOf : List ℕ → ℕ
+secondOf state = getD state 1 0
 
 abbrev pub countOf : List ℕ → ℕ
 countOf state = getD state 2 0

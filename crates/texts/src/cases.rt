@@ -2,23 +2,22 @@
 use crate::print;
 use job_text::Read;
 use job_text::read;
-use semiring::number;
 use text::until;
 
-// One text into two buffers: what was read and what the buffers then hold, but for zeros at their ends.
-pub fn one(label: &[u8], text: &[u8], sizes: &mut [u16], weights: &mut [u16]) {
-    let answer = read(text, sizes, weights);
+// One text into three buffers: what was read and what the buffers then hold, but for zeros at their ends.
+pub fn one(
+    label: &[u8],
+    text: &[u8],
+    algebras: &mut [u16],
+    sizes: &mut [u16],
+    weights: &mut [u16],
+) {
+    let answer = read(text, algebras, sizes, weights);
     print::text(label);
     match answer {
-        Read::List {
-            order,
-            algebra,
-            jobs,
-        } => {
+        Read::List { order, jobs } => {
             print::text(b": list of order");
             print::number(order as u32);
-            print::text(b" algebra");
-            print::number(number(algebra));
             print::text(b" jobs");
             print::number(jobs as u32);
         }
@@ -28,6 +27,7 @@ pub fn one(label: &[u8], text: &[u8], sizes: &mut [u16], weights: &mut [u16]) {
             print::number(why.line);
         }
     }
+    print::buffer(b"; algebras", algebras);
     print::buffer(b"; sizes", sizes);
     print::buffer(b"; weights", weights);
     print::end();
@@ -35,9 +35,10 @@ pub fn one(label: &[u8], text: &[u8], sizes: &mut [u16], weights: &mut [u16]) {
 
 // One text into buffers of the right lengths that hold other words.
 pub fn fresh(label: &[u8], text: &[u8]) {
+    let mut algebras = [9u16; 16];
     let mut sizes = [9u16; 16];
     let mut weights = [9u16; 16384];
-    one(label, text, &mut sizes, &mut weights);
+    one(label, text, &mut algebras, &mut sizes, &mut weights);
 }
 
 pub fn all(input: &[u8]) {

@@ -12,6 +12,8 @@ fn main() {
     cases::all(&input[..n]);
     limits::longest();
     limits::too_long();
+    limits::few_algebras();
+    limits::many_algebras();
     limits::few_sizes();
     limits::many_sizes();
     limits::few_weights();

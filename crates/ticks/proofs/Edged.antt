@@ -7,7 +7,6 @@ use mathlib.Core.Bool.{Bool, true, false, cond}
 use lib.ListN.{length}
 use lib.Dec.{eqb}
 use borrow.Author.Tests.{eqb-true}
-use Rattle.semiring.specs.declared.Algebra.{Algebra}
 use Rattle.job_list.specs.Jobs.{Jobs, jobsOf}
 use Rattle.systolic.specs.Feeder.{fed}
 use Rattle.systolic.specs.Cell.{Planes, Cell}
@@ -19,14 +18,14 @@ use Rattle.ticks.specs.Found.{Found}
 use Rattle.ticks.specs.Filled.{Filled, entryOf}
 use Rattle.ticks.specs.Swept.{Held, Edged}
 
-module _ (algebra : Algebra) {n : ℕ} {head : Turn} {job : Job} (sizes weights : List ℕ) (t : ℕ) (below : head .point < n)
-    (step : stepOf n head ≡ t + 4 * n) (found : Found sizes (head .pass) job) where
+module _ (algebras : List ℕ) {n : ℕ} {head : Turn} {job : Job} (sizes weights : List ℕ) (t : ℕ) (below : head .point < n)
+    (step : stepOf n head ≡ t + 4 * n) (found : Found algebras sizes (head .pass) job) where
   abbrev J : Jobs
-  J = jobsOf algebra n sizes weights
+  J = jobsOf algebras n sizes weights
 
   -- the cells of the edges that are in a job's first pass are on the job of cell (0, 0)
   module _ {i j pass k : ℕ} (near : i + j < n) (on : Phase n (stepOf n head) i j pass k) (alive : live (length sizes) pass ≡ true) where
-    entry-fed : passIn pass ≡ 0 → (x y : ℕ) → entryOf algebra job weights x y ≡ fed J (jobIn pass) x y
+    entry-fed : passIn pass ≡ 0 → (x y : ℕ) → entryOf job weights x y ≡ fed J (jobIn pass) x y
     entry-fed first x y =
         let close = pass-next {s = head} below on near in
         let ahead = pass-most {s = head} below on in
@@ -34,9 +33,9 @@ module _ (algebra : Algebra) {n : ℕ} {head : Turn} {job : Job} (sizes weights 
         let on-job : live (length sizes) (head .pass) ≡ true = sym (live-same (length sizes) pass (head .pass) same) ∙ alive in
         let q : jobIn (head .pass) ≡ jobIn pass = omega arith in
         let width : job .end - job .start ≡ job .size * job .size = omega (arith, found .end) in
-        rw (width, found .size on-job, found .start on-job, q)
+        rw (width, found .algebra .is on-job, found .size on-job, found .start on-job, q)
 
-    comes-in : {word entry own own′ : ℕ} (x y : ℕ) → entry ≡ entryOf algebra job weights x y → own ≡ own′
+    comes-in : {word entry own own′ : ℕ} (x y : ℕ) → entry ≡ entryOf job weights x y → own ≡ own′
         → word ≡ cond (eqb (passIn pass) 0) entry own
         → word ≡ cond (eqb (passIn pass) 0) (fed J (jobIn pass) x y) own′
     comes-in {word} {entry} {own} {own′} x y e f is = is ∙ go (eqb (passIn pass) 0) refl
@@ -45,7 +44,7 @@ module _ (algebra : Algebra) {n : ℕ} {head : Turn} {job : Job} (sizes weights 
         go true g = e ∙ entry-fed (eqb-true (passIn pass) 0 g) x y
         go false g = f
 
-  module _ {r : Planes} {planes edges : List ℕ} (held : Held J r planes) (filled : Filled algebra n head job weights planes edges) where
+  module _ {r : Planes} {planes edges : List ℕ} (held : Held J r planes) (filled : Filled n head job weights planes edges) where
     pub edged : Edged J t r edges
     edged = record {
       top = λ j pass k h on alive.

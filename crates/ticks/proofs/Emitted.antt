@@ -16,7 +16,6 @@ use borrow.Author.Tests.{eq-eqb, ne-eqb, le-ltb, ltb-true}
 use Rattle.memory.specs.Lists.{replaced}
 use Rattle.memory.proofs.Any.{both-true}
 use Rattle.memory.proofs.Part.{part-length}
-use Rattle.semiring.specs.declared.Algebra.{Algebra}
 use Rattle.job_list.specs.Jobs.{Jobs, jobsOf, size, place}
 use Rattle.systolic.specs.Cell.{Planes, cellOf}
 use Rattle.systolic.specs.Tick.{emitted, emittedRows}
@@ -107,11 +106,11 @@ emit-sends {job = job} {results = results} asked banded = record {
 }
 
 -- Tick t, on which cell (0, 0) has turn `head` and cell (0, N - 1) turn z.
-module _ (algebra : Algebra) {n : ℕ} (sizes weights : List ℕ) (t : ℕ) {head z : Turn} {job : Job} {band : Band} {planes results : List ℕ}
-    (asked : Emitting n head job planes results) (step : stepOf n head ≡ t + 4 * n) (found : Found sizes (head .pass - 2) job)
+module _ (algebras : List ℕ) {n : ℕ} (sizes weights : List ℕ) (t : ℕ) {head z : Turn} {job : Job} {band : Band} {planes results : List ℕ}
+    (asked : Emitting n head job planes results) (step : stepOf n head ≡ t + 4 * n) (found : Found algebras sizes (head .pass - 2) job)
     (at : At n (n * head .pass + head .point + 1 - n) z) (banded : Banded n 3 (stepOf n z) band) where
   abbrev J : Jobs
-  J = jobsOf algebra n sizes weights
+  J = jobsOf algebras n sizes weights
 
   abbrev new : Planes
   new = planesIn n planes

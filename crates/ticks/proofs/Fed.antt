@@ -161,7 +161,7 @@ module _ {n : ℕ} {head : Turn} {job : Job} {weights planes old : List ℕ} (as
       room = omega (arith, copied .size, asked .room);
     }
 
-    module _ {algebra : Algebra} {edges : List ℕ} (fed : Fed algebra n (job .size) band (take (job .end - job .start) (drop (job .start) weights)) wrapped edges) where
+    module _ {edges : List ℕ} (fed : Fed (job .algebra) n (job .size) band (take (job .end - job .start) (drop (job .start) weights)) wrapped edges) where
       -- cell x of either edge: in the band or not
       entry-or-word : (x pass k : ℕ) {word entry own : ℕ} → x < n → k < n → n * pass + k + x ≡ stepOf n head
           → (band .from ≤ x → x < band .to → k ≡ band .last - x → word ≡ entry)
@@ -178,14 +178,14 @@ module _ {n : ℕ} {head : Turn} {job : Job} {weights planes old : List ℕ} (as
           go (no d) (no d′) =
               rw (ne-eqb (passIn pass) 0 (banded .after x pass k (omega arith) h b e)) (outside (λ u u′. d′ u′))
 
-      pub fill-done : Filled algebra n head job weights planes edges
+      pub fill-done : Filled n head job weights planes edges
       fill-done = record {
         top = λ j pass k h on.
             entry-or-word j pass k h (on .below) (omega (arith, on .at))
-            (λ u u′ e. fed .top j u u′ ∙ ap (λ (x : ℕ). entryOf algebra job weights x j) (sym e))
+            (λ u u′ e. fed .top j u u′ ∙ ap (λ (x : ℕ). entryOf job weights x j) (sym e))
             (λ f. fed .top-kept j h f ∙ copied .top j h);
         left = λ i pass k h on.
             entry-or-word i pass k h (on .below) (omega (arith, on .at))
-            (λ u u′ e. fed .left i u u′ ∙ ap (λ (x : ℕ). entryOf algebra job weights i x) (sym e))
+            (λ u u′ e. fed .left i u u′ ∙ ap (λ (x : ℕ). entryOf job weights i x) (sym e))
             (λ f. fed .left-kept i h f ∙ copied .left i h);
       }

@@ -7,7 +7,9 @@ use mathlib.Core.Bool.{Bool, true, false, true≢false}
 use lib.ListN.{length, getD, set}
 use mir.Syntax.{w64}
 use mir.Val.{Fits}
-use Rattle.job_list.specs.Jobs.{offset}
+use Rattle.semiring.specs.declared.Algebra.{Algebra}
+use Rattle.semiring.specs.declared.Algebra.the-variants.{Reach}
+use Rattle.job_list.specs.Jobs.{algebraOf, offset}
 use Rattle.job_list.specs.Fits.{Small}
 use Rattle.job_list.proofs.Places.{offset-none, offset-one, part-within}
 use Rattle.job_list.proofs.Fits.{area-fits, offset-most, words-most}
@@ -15,10 +17,13 @@ use Rattle.memory.specs.Walked.{Walked}
 use Rattle.memory.proofs.Walk.{walked-none, walked-one}
 use Rattle.turns.specs.Turn.{live, jobIn}
 use Rattle.turns.proofs.Turns.{live-bounds, live-job}
-use Rattle.ticks.specs.Found.{Listed, Found}
+use Rattle.ticks.specs.Found.{Listed, Findable, Found}
 
 -- The job of a pass, from the numbers of the code and what `live` answered.
-module _ {sizes starts : List ℕ} (listed : Listed sizes starts) (pass : ℕ) {answer : Bool} (is : answer ≡ live (length sizes) pass) (found : answer ≡ true) where
+module _ {algebras sizes starts : List ℕ} (asked : Findable algebras sizes starts) (pass : ℕ) {answer : Bool} (is : answer ≡ live (length sizes) pass) (found : answer ≡ true) where
+  abbrev listed : Listed sizes starts
+  listed = asked .listed
+
   e : live (length sizes) pass ≡ true
   e = sym is ∙ found
 
@@ -27,6 +32,9 @@ module _ {sizes starts : List ℕ} (listed : Listed sizes starts) (pass : ℕ) {
 
   pub job-there : jobIn pass < length sizes
   job-there = live-job (length sizes) pass e
+
+  pub job-named : jobIn pass < length algebras
+  job-named = omega (arith, job-there, asked .one-each)
 
   pub job-starts : jobIn pass < length starts
   job-starts = omega (arith, job-there, listed .room)
@@ -44,10 +52,12 @@ module _ {sizes starts : List ℕ} (listed : Listed sizes starts) (pass : ℕ) {
     pub end-room : Fits w64 (getD starts (jobIn pass) 0 + size * size)
     end-room = omega (arith, job-fits, ap (λ (x : ℕ). x * x) f, listed .start (jobIn pass) job-there)
 
-    pub job-found : Found sizes pass (record { size = size; start = getD starts (jobIn pass) 0; end = getD starts (jobIn pass) 0 + size * size })
-    job-found =
+    pub job-found : {a : Algebra} → a ≡ algebraOf algebras (jobIn pass)
+        → Found algebras sizes pass (record { algebra = a; size = size; start = getD starts (jobIn pass) 0; end = getD starts (jobIn pass) 0 + size * size })
+    job-found named =
         let start-at = listed .start (jobIn pass) job-there in
         record {
+          algebra = record { is = λ h. named };
           end = refl;
           within = rw (start-at, f) (part-within sizes (jobIn pass) job-there);
           size = λ h. f;
@@ -55,9 +65,10 @@ module _ {sizes starts : List ℕ} (listed : Listed sizes starts) (pass : ℕ) {
           idle = λ h. absurd (true≢false (sym e ∙ h));
         }
 
-pub none-found : {sizes : List ℕ} {pass : ℕ} {answer : Bool} → answer ≡ live (length sizes) pass → answer ≡ false
-    → Found sizes pass (record { size = 0; start = 0; end = 0 })
+pub none-found : {algebras sizes : List ℕ} {pass : ℕ} {answer : Bool} → answer ≡ live (length sizes) pass → answer ≡ false
+    → Found algebras sizes pass (record { algebra = Reach; size = 0; start = 0; end = 0 })
 none-found is idle = record {
+  algebra = record { is = λ h. absurd (true≢false (sym h ∙ sym is ∙ idle)) };
   end = refl;
   within = omega arith;
   size = λ h. absurd (true≢false (sym h ∙ sym is ∙ idle));

@@ -6,7 +6,6 @@ use native.Mathlib.Decide.{decLt}
 use mathlib.Core.Path.{_≡_, refl, sym, ap, _∙_}
 use mathlib.Core.List.{List}
 use lib.ListN.{length}
-use Rattle.semiring.specs.declared.Algebra.{Algebra}
 use Rattle.job_list.specs.Jobs.{Jobs, jobsOf}
 use Rattle.job_list.specs.Fits.{Small}
 use Rattle.job_list.proofs.Fits.{fits-small, words-most}
@@ -19,7 +18,7 @@ use Rattle.turns.specs.Turn.{At, stepOf}
 use Rattle.turns.specs.Layout.{planesIn}
 use Rattle.ticks.specs.declared.jobs.Job.{Job}
 use Rattle.ticks.specs.declared.stage.Stage.{Stage}
-use Rattle.ticks.specs.Found.{Listed, Found}
+use Rattle.ticks.specs.Found.{Listed, Findable, AlgebraIn, Found}
 use Rattle.ticks.specs.Staged.{Staged}
 use Rattle.ticks.specs.Filled.{Filling, Filled}
 use Rattle.ticks.specs.Swept.{Sweeping, Held, Edged, Made}
@@ -47,8 +46,9 @@ module _ {J : Jobs} {last : ℕ} {edges planes results : List ℕ} (ready : Read
     ticks = omega (arith, ready .ticks);
   }
 
--- What stands in the array, from the turn of cell (0, 0) and the two jobs.
-module _ {n t : ℕ} {sizes starts : List ℕ} {head : Turn} (asked : (1 ≤ n) × (n ≤ 32) × (t ≤ 2110) × Listed sizes starts) (at : At n (t + 4 * n) head) where
+-- What stands in the array, from the turn of cell (0, 0) and the three jobs.
+module _ {n t : ℕ} {algebras sizes starts : List ℕ} {head : Turn}
+    (asked : (1 ≤ n) × (n ≤ 32) × (t ≤ 2110) × Findable algebras sizes starts) (at : At n (t + 4 * n) head) where
   head-early : 4 ≤ head .pass
   head-early = go (decLt (head .pass) 4)
     where
@@ -59,27 +59,29 @@ module _ {n t : ℕ} {sizes starts : List ℕ} {head : Turn} (asked : (1 ≤ n) 
   pub pass-there : 2 ≤ head .pass
   pass-there = omega (arith, head-early)
 
-  pub staged : {front back : Job} → Found sizes (head .pass) front → Found sizes (head .pass - 2) back
-      → Staged n t sizes (record { tick = t; head = head; front = front; back = back })
-  staged first second = record {
+  pub staged : {front middle back : Job} → Found algebras sizes (head .pass) front → Found algebras sizes (head .pass - 1) middle
+      → Found algebras sizes (head .pass - 2) back
+      → Staged n t algebras sizes (record { tick = t; head = head; front = front; middle = middle; back = back })
+  staged first second third = record {
     tick = refl;
     head = record {
       least = asked .0;
       most = asked .1;
-      few = asked .3 .few;
+      few = asked .3 .listed .few;
       below = at .below;
       early = head-early;
       late = omega (arith, at .at, asked .1, asked .2);
     };
     step = at .at;
     front = first;
-    back = second;
+    middle = second;
+    back = third;
   }
 
 -- The calls of a tick.
-module _ {algebra : Algebra} {n : ℕ} {sizes weights : List ℕ} {s : Stage} {edges planes results : List ℕ}
-    (ready : Ready (jobsOf algebra n sizes weights) (s .tick + 1) edges planes results) (stage : Staged n (s .tick) sizes s) where
-  pub tick-fills : {pass : ℕ} {job : Job} {edges′ planes′ : List ℕ} → Found sizes pass job → length edges′ ≡ length edges → length planes′ ≡ length planes
+module _ {algebras : List ℕ} {n : ℕ} {sizes weights : List ℕ} {s : Stage} {edges planes results : List ℕ}
+    (ready : Ready (jobsOf algebras n sizes weights) (s .tick + 1) edges planes results) (stage : Staged n (s .tick) algebras sizes s) where
+  pub tick-fills : {pass : ℕ} {job : Job} {edges′ planes′ : List ℕ} → Found algebras sizes pass job → length edges′ ≡ length edges → length planes′ ≡ length planes
       → Filling n (s .head) job weights planes′ edges′
   tick-fills found same same′ = record {
     least = stage .head .least;
@@ -100,7 +102,7 @@ module _ {algebra : Algebra} {n : ℕ} {sizes weights : List ℕ} {s : Stage} {e
     room = record { most = stage .head .most; wide = omega (arith, ready .edges-fit); long = ready .planes-fit };
   }
 
-  pub tick-emits : {pass : ℕ} {job : Job} {planes′ : List ℕ} → Found sizes pass job → length planes′ ≡ length planes → Emitting n (s .head) job planes′ results
+  pub tick-emits : {pass : ℕ} {job : Job} {planes′ : List ℕ} → Found algebras sizes pass job → length planes′ ≡ length planes → Emitting n (s .head) job planes′ results
   tick-emits found same = record {
     least = stage .head .least;
     most = stage .head .most;
@@ -114,23 +116,25 @@ module _ {algebra : Algebra} {n : ℕ} {sizes weights : List ℕ} {s : Stage} {e
 
   -- the edges filled, the cells swept, and what leaves read off them
   pub tick-done : {edges′ planes′ results′ : List ℕ} → length planes′ ≡ length planes
-      → Filled algebra n (s .head) (s .front) weights planes edges′
-      → ((sizes′ weights′ : List ℕ) (t : ℕ) (r : Planes) → length sizes′ ≡ length sizes → stepOf n (s .head) ≡ t + 4 * n
-      → Held (jobsOf algebra n sizes′ weights′) r planes → Edged (jobsOf algebra n sizes′ weights′) t r edges′
-      → Made (jobsOf algebra n sizes′ weights′) t r planes′)
-      → ((a : Algebra) (sizes′ weights′ : List ℕ) (t : ℕ) → stepOf n (s .head) ≡ t + 4 * n → Found sizes′ (s .head .pass - 2) (s .back)
-      → results′ ≡ emittedRows (jobsOf a n sizes′ weights′) t (planesIn n planes′) n results)
-      → arrayOf n planes′ results′ ≡ ticked (jobsOf algebra n sizes weights) (s .tick) (arrayOf n planes results)
+      → Filled n (s .head) (s .front) weights planes edges′
+      → ((algebras′ sizes′ weights′ : List ℕ) (t : ℕ) (r : Planes) → length sizes′ ≡ length sizes → stepOf n (s .head) ≡ t + 4 * n
+      → AlgebraIn algebras′ sizes′ (s .head .pass) (s .front .algebra) → AlgebraIn algebras′ sizes′ (s .head .pass - 1) (s .middle .algebra)
+      → Held (jobsOf algebras′ n sizes′ weights′) r planes → Edged (jobsOf algebras′ n sizes′ weights′) t r edges′
+      → Made (jobsOf algebras′ n sizes′ weights′) t r planes′)
+      → ((algebras′ sizes′ weights′ : List ℕ) (t : ℕ) → stepOf n (s .head) ≡ t + 4 * n → Found algebras′ sizes′ (s .head .pass - 2) (s .back)
+      → results′ ≡ emittedRows (jobsOf algebras′ n sizes′ weights′) t (planesIn n planes′) n results)
+      → arrayOf n planes′ results′ ≡ ticked (jobsOf algebras n sizes weights) (s .tick) (arrayOf n planes results)
   unfolding ticked
   tick-done {edges′} {planes′} {results′} same filled sweeps emits =
-      let J : Jobs = jobsOf algebra n sizes weights in
+      let J : Jobs = jobsOf algebras n sizes weights in
       let t : ℕ = s .tick in
       let held : Held J (planesIn n planes) planes = held-planes J planes (ready .planes-fit) in
-      let ins : Edged J t (planesIn n planes) edges′ = edged algebra sizes weights t (stage .head .below) (stage .step) (stage .front) held filled in
-      let cells : Made J t (planesIn n planes) planes′ = sweeps sizes weights t (planesIn n planes) refl (stage .step) held ins in
+      let ins : Edged J t (planesIn n planes) edges′ = edged algebras sizes weights t (stage .head .below) (stage .step) (stage .front) held filled in
+      let cells : Made J t (planesIn n planes) planes′ =
+      sweeps algebras sizes weights t (planesIn n planes) refl (stage .step) (stage .front .algebra) (stage .middle .algebra) held ins in
       let made : planesIn n planes′ ≡ planesAfter J t (planesIn n planes) =
       made-planes J t (planesIn n planes) planes′ (same ∙ ready .planes-fit) cells in
-      let wrote = emits algebra sizes weights t (stage .step) (stage .back) ∙ ap (λ (p : Planes). emittedRows J t p n results) made in
+      let wrote = emits algebras sizes weights t (stage .step) (stage .back) ∙ ap (λ (p : Planes). emittedRows J t p n results) made in
       λ x. record { planes = made x; results = wrote x }
 
 -- The loop of the ticks from `from` on to `to`: those before t are made.
@@ -164,7 +168,8 @@ module _ {J : Jobs} {from to t : ℕ} {planes₀ results₀ edges planes results
   ends last = let e : t ≡ to = omega (arith, c .most) in rw e at (c .array)
 
   module _ (more : t < to) where
-    pub one-asked : {n : ℕ} {sizes : List ℕ} {s : Stage} → Staged n t sizes s → Ready J (s .tick + 1) edges planes results × Staged n (s .tick) sizes s
+    pub one-asked : {n : ℕ} {algebras sizes : List ℕ} {s : Stage} → Staged n t algebras sizes s
+        → Ready J (s .tick + 1) edges planes results × Staged n (s .tick) algebras sizes s
     one-asked stage = (
       ready-again (c .ready) (omega (arith, stage .tick)) refl refl refl,
       record {
@@ -172,14 +177,18 @@ module _ {J : Jobs} {from to t : ℕ} {planes₀ results₀ edges planes results
         head = stage .head;
         step = omega (arith, stage .step, stage .tick);
         front = stage .front;
+        middle = stage .middle;
         back = stage .back;
       },
     )
 
+    pub findable : {starts : List ℕ} → Listed (J .sizes) starts → Findable (J .algebras) (J .sizes) starts
+    findable marked = record { one-each = c .ready .list .algebras-fit; listed = marked }
+
     pub tick-room : t ≤ 2110
     tick-room = omega (arith, ready-last (c .ready))
 
-    pub goes-on : {n : ℕ} {sizes : List ℕ} {s : Stage} {edges′ planes′ results′ : List ℕ} → Staged n t sizes s
+    pub goes-on : {n : ℕ} {algebras sizes : List ℕ} {s : Stage} {edges′ planes′ results′ : List ℕ} → Staged n t algebras sizes s
         → length edges′ ≡ length edges → length planes′ ≡ length planes → length results′ ≡ length results
         → arrayOf (J .order) planes′ results′ ≡ ticked J (s .tick) (arrayOf (J .order) planes results)
         → Making J from to (t + 1) planes₀ results₀ edges′ planes′ results′

@@ -46,14 +46,14 @@ pub record Filling (n : ℕ) (head : Turn) (job : Job) (weights planes edges : L
   pub room : 2 * n ≤ length edges
 
 -- The entry (i, j) of the job, padded.
-abbrev pub entryOf : Algebra → Job → List ℕ → ℕ → ℕ → ℕ
-entryOf algebra job weights = paddedTable algebra (job .size) (take (job .end - job .start) (drop (job .start) weights))
+abbrev pub entryOf : Job → List ℕ → ℕ → ℕ → ℕ
+entryOf job weights = paddedTable (job .algebra) (job .size) (take (job .end - job .start) (drop (job .start) weights))
 
 -- A cell of the edges in the first pass of a job gets the entry for its point, any other the word at the row's or the column's end.
-pub record Filled (algebra : Algebra) (n : ℕ) (head : Turn) (job : Job) (weights planes edges : List ℕ) : Type 0 where
+pub record Filled (n : ℕ) (head : Turn) (job : Job) (weights planes edges : List ℕ) : Type 0 where
   pub top : (j pass k : ℕ) → j < n → Phase n (stepOf n head) 0 j pass k
       → getD edges j 0
-      ≡ cond (eqb (passIn pass) 0) (entryOf algebra job weights k j) (getD planes (2 * (n * n) + ((n - 1) * n + j)) 0)
+      ≡ cond (eqb (passIn pass) 0) (entryOf job weights k j) (getD planes (2 * (n * n) + ((n - 1) * n + j)) 0)
   pub left : (i pass k : ℕ) → i < n → Phase n (stepOf n head) i 0 pass k
       → getD edges (n + i) 0
-      ≡ cond (eqb (passIn pass) 0) (entryOf algebra job weights i k) (getD planes (n * n + (i * n + (n - 1))) 0)
+      ≡ cond (eqb (passIn pass) 0) (entryOf job weights i k) (getD planes (n * n + (i * n + (n - 1))) 0)

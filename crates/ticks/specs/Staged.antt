@@ -7,9 +7,10 @@ use Rattle.turns.specs.Turn.{Head, stepOf}
 use Rattle.ticks.specs.declared.stage.Stage.{Stage}
 use Rattle.ticks.specs.Found.{Found}
 
-pub record Staged (n t : ℕ) (sizes : List ℕ) (s : Stage) : Type 0 where
+pub record Staged (n t : ℕ) (algebras sizes : List ℕ) (s : Stage) : Type 0 where
   pub tick : s .tick ≡ t
   pub head : Head n (length sizes) (s .head)
   pub step : stepOf n (s .head) ≡ t + 4 * n
-  pub front : Found sizes (s .head .pass) (s .front)
-  pub back : Found sizes (s .head .pass - 2) (s .back)
+  pub front : Found algebras sizes (s .head .pass) (s .front)
+  pub middle : Found algebras sizes (s .head .pass - 1) (s .middle)
+  pub back : Found algebras sizes (s .head .pass - 2) (s .back)

@@ -3,7 +3,6 @@ ghost use mathlib.Core.Path.{_≡_};
 ghost use Prim.Native.Nat.{ℕ, _+_, _-_, _*_};
 ghost use mathlib.Core.List.{List};
 ghost use lib.ListN.{length};
-ghost use Rattle.semiring.specs.declared.Algebra.{Algebra};
 ghost use Rattle.systolic.specs.Tick.{emittedRows};
 ghost use Rattle.job_list.specs.Jobs.{jobsOf};
 ghost use Rattle.turns.specs.Turn.{stepOf};
@@ -50,8 +49,8 @@ fn send(n: usize, size: usize, band: Band, planes: &[u16], part: &mut [u16])
 // All rows, where cell (0, 0) has turn `head` and the cells two passes behind it are on the job.
 pub fn emit(n: usize, head: Turn, job: Job, planes: &[u16], results: &mut [u16])
     requires { ⌜ Emitting n head job (now planes) (now results) ⌝ }
-    ensures { λ _. ⌜ ((algebra : Algebra) (sizes weights : List ℕ) (t : ℕ) → stepOf n head ≡ t + 4 * n → Found sizes (head .pass - 2) job
-        → now (results .exit) ≡ emittedRows (jobsOf algebra n sizes weights) t (planesIn n (now (planes .entry))) n (now (results .entry))) ⌝ }
+    ensures { λ _. ⌜ ((algebras sizes weights : List ℕ) (t : ℕ) → stepOf n head ≡ t + 4 * n → Found algebras sizes (head .pass - 2) job
+        → now (results .exit) ≡ emittedRows (jobsOf algebras n sizes weights) t (planesIn n (now (planes .entry))) n (now (results .entry))) ⌝ }
 {
     let band = Band::of(n, head.to_last(n), 3);
     let start = job.start;

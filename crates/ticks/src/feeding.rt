@@ -44,20 +44,13 @@ fn feed(algebra: Algebra, n: usize, size: usize, weights: &[u16], band: Band, ed
 }
 
 // Both edges, where cell (0, 0) has turn `head` and is on the job.
-pub fn fill(
-    algebra: Algebra,
-    n: usize,
-    head: Turn,
-    job: Job,
-    weights: &[u16],
-    planes: &[u16],
-    edges: &mut [u16],
-)
+pub fn fill(n: usize, head: Turn, job: Job, weights: &[u16], planes: &[u16], edges: &mut [u16])
     requires { ⌜ Filling n head job (now weights) (now planes) (now edges) ⌝ }
-    ensures { λ _. ⌜ Filled algebra n head job (now (weights .entry)) (now (planes .entry)) (now (edges .exit)) ⌝ }
+    ensures { λ _. ⌜ Filled n head job (now (weights .entry)) (now (planes .entry)) (now (edges .exit)) ⌝ }
 {
     wrap(n, planes, edges);
     let band = Band::of(n, head, 0);
+    let algebra = job.algebra;
     let start = job.start;
     let end = job.end;
     feed(algebra, n, job.size, &weights[start..end], band, edges);

@@ -3,11 +3,14 @@ ghost use mathlib.Core.Path.{_≡_};
 ghost use Prim.Native.Nat.{_≤_};
 ghost use lib.ListN.{length};
 ghost use Rattle.job_list.specs.Fits.{Small};
-ghost use Rattle.ticks.specs.Found.{Listed, Found};
+ghost use Rattle.ticks.specs.Found.{Listed, Findable, Found};
+use job_list::algebra_of;
+use semiring::Algebra;
 use turns::live;
 
-// A job's size and its part, which begins where the earlier jobs' end.
+// A job's algebra and size, and its part, which begins where the earlier jobs' end.
 pub struct Job {
+    pub algebra: Algebra,
     pub size: usize,
     pub start: usize,
     pub end: usize,
@@ -35,21 +38,24 @@ pub fn mark(sizes: &[u16], starts: &mut [usize])
 }
 
 // The job of a pass; where the pass is of none, a job of no points.
-pub fn job_of(pass: usize, sizes: &[u16], starts: &[usize]) -> Job
-    requires { ⌜ Listed (now sizes) (now starts) ⌝ }
-    ensures { λ r. ⌜ Found (now (sizes .entry)) pass r ⌝ }
+pub fn job_of(pass: usize, algebras: &[u16], sizes: &[u16], starts: &[usize]) -> Job
+    requires { ⌜ Findable (now algebras) (now sizes) (now starts) ⌝ }
+    ensures { λ r. ⌜ Found (now (algebras .entry)) (now (sizes .entry)) pass r ⌝ }
 {
     if live(sizes.len(), pass) {
         let q = pass / 4 - 1;
+        let algebra = algebra_of(algebras, q);
         let size = wide(sizes[q]);
         let start = starts[q];
         return Job {
+            algebra: algebra,
             size: size,
             start: start,
             end: start + size * size,
         };
     }
     Job {
+        algebra: Algebra::Reach,
         size: 0,
         start: 0,
         end: 0,

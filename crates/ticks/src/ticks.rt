@@ -11,47 +11,50 @@ use crate::jobs::mark;
 use crate::stage::Stage;
 use crate::stage::stage_at;
 use crate::sweep::sweep;
-use semiring::Algebra;
 use turns::Span;
 
 // The tick of a stage. `edges` has room for the words that come in at the top and at the left.
 fn tick(
-    algebra: Algebra,
     n: usize,
     stage: Stage,
+    algebras: &[u16],
     sizes: &[u16],
     weights: &[u16],
     edges: &mut [u16],
     planes: &mut [u16],
     results: &mut [u16],
 )
-    requires { ⌜ Ready (jobsOf algebra n (now sizes) (now weights)) (stage .tick + 1) (now edges) (now planes) (now results) ⌝ }
-    requires { ⌜ Staged n (stage .tick) (now sizes) stage ⌝ }
+    requires { ⌜ Ready (jobsOf (now algebras) n (now sizes) (now weights)) (stage .tick + 1) (now edges) (now planes) (now results) ⌝ }
+    requires { ⌜ Staged n (stage .tick) (now algebras) (now sizes) stage ⌝ }
     ensures { λ _. ⌜ arrayOf n (now (planes .exit)) (now (results .exit))
-        ≡ ticked (jobsOf algebra n (now (sizes .entry)) (now (weights .entry))) (stage .tick)
+        ≡ ticked (jobsOf (now (algebras .entry)) n (now (sizes .entry)) (now (weights .entry))) (stage .tick)
         (arrayOf n (now (planes .entry)) (now (results .entry))) ⌝ }
 {
     let head = stage.head;
-    fill(algebra, n, head, stage.front, weights, planes, edges);
-    sweep(algebra, n, sizes.len(), head, edges, planes);
+    let front = stage.front;
+    let middle = stage.middle;
+    let here = front.algebra;
+    let behind = middle.algebra;
+    fill(n, head, front, weights, planes, edges);
+    sweep(here, behind, n, sizes.len(), head, edges, planes);
     emit(n, head, stage.back, planes, results);
 }
 
 // The ticks from ≤ t < to of a span. The planes may hold any words.
 pub fn advance(
-    algebra: Algebra,
     n: usize,
     span: Span,
+    algebras: &[u16],
     sizes: &[u16],
     weights: &[u16],
     edges: &mut [u16],
     planes: &mut [u16],
     results: &mut [u16],
 )
-    requires { ⌜ Ready (jobsOf algebra n (now sizes) (now weights)) (span .to) (now edges) (now planes) (now results) ⌝ }
+    requires { ⌜ Ready (jobsOf (now algebras) n (now sizes) (now weights)) (span .to) (now edges) (now planes) (now results) ⌝ }
     requires { ⌜ span .from ≤ span .to ⌝ }
     ensures { λ _. ⌜ arrayOf n (now (planes .exit)) (now (results .exit))
-        ≡ ticksOf (jobsOf algebra n (now (sizes .entry)) (now (weights .entry))) (span .from) (span .to - span .from)
+        ≡ ticksOf (jobsOf (now (algebras .entry)) n (now (sizes .entry)) (now (weights .entry))) (span .from) (span .to - span .from)
         (arrayOf n (now (planes .entry)) (now (results .entry))) ⌝ }
 {
     let mut starts = [0usize; 16];
@@ -59,8 +62,8 @@ pub fn advance(
     let to = span.to;
     let mut t = span.from;
     while t < to {
-        let stage = stage_at(n, t, sizes, &starts);
-        tick(algebra, n, stage, sizes, weights, edges, planes, results);
+        let stage = stage_at(n, t, algebras, sizes, &starts);
+        tick(n, stage, algebras, sizes, weights, edges, planes, results);
         t += 1;
     }
 }

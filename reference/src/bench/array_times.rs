@@ -4,10 +4,10 @@ use crate::bench::timing::best_times;
 use crate::job_text::JobList;
 use crate::systolic::checks::eliminations;
 use crate::systolic::host_call;
+use crate::systolic::memory::OwnJobs;
 use crate::systolic::part_starts;
 use crate::systolic::rows::{Lent, RowArray};
 use crate::systolic::state::total;
-use crate::systolic::Jobs;
 use std::hint::black_box;
 
 /// The times of a round in nanoseconds, ours and rust's, in runs of `allowance` ticks.
@@ -32,6 +32,7 @@ fn ticks_of(list: &JobList) -> usize {
 }
 
 struct Ours {
+    jobs: OwnJobs,
     state: Vec<u16>,
     scratch: Vec<u16>,
     results: Vec<u16>,
@@ -41,6 +42,7 @@ impl Ours {
     fn new(list: &JobList) -> Ours {
         let order = usize::from(list.order);
         Ours {
+            jobs: OwnJobs::of(list),
             state: vec![0; 4 + 3 * order * order],
             scratch: vec![0; 2 * order],
             results: vec![0; list.weights.len()],
@@ -48,12 +50,9 @@ impl Ours {
     }
 
     fn round(&mut self, list: &JobList, allowance: u16) {
-        let jobs = Jobs {
-            sizes: &list.sizes,
-            weights: &list.weights,
-        };
-        let (algebra, order) = (list.algebra.number(), list.order.into());
-        assert_eq!(host_call::start(algebra, order, jobs, &mut self.state), 0);
+        let jobs = self.jobs.lent();
+        let order = list.order.into();
+        assert_eq!(host_call::start(order, jobs, &mut self.state), 0);
         let mut left = ticks_of(list);
         while left > 0 {
             let mut made = 0;
@@ -80,7 +79,7 @@ struct Rust {
 impl Rust {
     fn new(list: &JobList) -> Rust {
         Rust {
-            rows: RowArray::start(list.order.into(), list.algebra, list.sizes.len()),
+            rows: RowArray::start(list.order.into(), list.sizes.len()),
             starts: part_starts(&list.sizes),
             results: vec![0; list.weights.len()],
         }
@@ -88,6 +87,7 @@ impl Rust {
 
     fn round(&mut self, list: &JobList, allowance: u16) {
         let lent = Lent {
+            algebras: &list.algebras,
             sizes: &list.sizes,
             starts: &self.starts,
             weights: &list.weights,

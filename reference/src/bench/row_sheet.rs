@@ -17,11 +17,12 @@ pub fn row_sheet(text: &[u8]) -> Vec<u8> {
 fn accepted(list: &JobList) -> Vec<u8> {
     let starts = part_starts(&list.sizes);
     let lent = Lent {
+        algebras: &list.algebras,
         sizes: &list.sizes,
         starts: &starts,
         weights: &list.weights,
     };
-    let mut array = RowArray::start(list.order.into(), list.algebra, list.sizes.len());
+    let mut array = RowArray::start(list.order.into(), list.sizes.len());
     let mut results = vec![0; list.weights.len()];
     let ticks = array.run(65_535, &lent, &mut results);
     let mut printed = Vec::with_capacity(64 + 29 * results.len());
@@ -41,7 +42,7 @@ fn print_job(printed: &mut Vec<u8>, list: &JobList, job: usize, part: &[u16]) {
         let tick = 4 * n * job + 4 * n - 1 + sum;
         for row in (sum + 1).saturating_sub(size)..size.min(sum + 1) {
             let column = sum - row;
-            let word = written(list.algebra, part[row * size + column]);
+            let word = written(list.algebras[job], part[row * size + column]);
             print(
                 printed,
                 format_args!("(out {job} {row} {column} {size} {tick} {word})\n"),

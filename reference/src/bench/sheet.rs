@@ -1,5 +1,5 @@
-//! What the bench program prints, as the end of "Job text and bench program" in document 01 has it, with K1 of document 02: the
-//! job's size after the column.
+//! What the bench program prints, as the end of "Job text and bench program" in document 01 has it, with K1 and K8 of
+//! document 02: the job's size after the column, and none by the job's own algebra.
 
 use crate::algebra::Algebra;
 use crate::job_text::{read, JobList, Refusal};
@@ -28,7 +28,7 @@ pub fn accepted(list: &JobList, outcome: &Outcome) -> Vec<u8> {
         let (job, row, column) = (leaving.job, leaving.row, leaving.column);
         let size = usize::from(list.sizes[job]);
         let word = outcome.results[starts[job] + row * size + column];
-        let word = written(list.algebra, word);
+        let word = written(list.algebras[job], word);
         let tick = leaving.tick;
         printed += &format!("(out {job} {row} {column} {size} {tick} {word})\n");
     }

@@ -7,7 +7,8 @@
 //!
 //! An array has 16 jobs of its own order or, where the row says so, of one point, which leaves little to read. It is
 //! started once a round and run to its end, in one run or in runs of one tick each: every run of ours makes its tests,
-//! and in reach test 5 reads all weights. The row-wise array in Rust makes no test.
+//! and of jobs in reach test 5 reads all weights. The row-wise array in Rust makes no test. The jobs of a mixed list go
+//! through the three algebras in turn.
 //!
 //! Where sizes are named, `benchmark SIZE..`, the elimination alone is timed, at those.
 
@@ -23,7 +24,7 @@ use reference::elimination::host_call::{self, bytes_of};
 use reference::elimination::rust_loop::RustLoop;
 use reference::elimination::sse2;
 use reference::elimination::tables::{table, Kind};
-use reference::job_text::JobList;
+use reference::job_text::{JobList, MAX_JOBS};
 use reference::random::Random;
 use reference::systolic::state::total;
 use reference::texts::lists::{list, Sizes};
@@ -43,7 +44,17 @@ const WAY_ROUNDS: usize = 2;
 /// Order, and size of each of the 16 jobs.
 const LISTS: [(usize, usize); 3] = [(8, 8), (16, 16), (32, 32)];
 const ARRAYS: [(usize, usize); 6] = [(8, 8), (16, 16), (31, 31), (32, 32), (31, 1), (32, 1)];
-const SINGLE_TICKS: [(usize, usize); 4] = [(31, 31), (32, 32), (31, 1), (32, 1)];
+const SINGLE_TICKS: [(usize, usize); 6] = [(4, 4), (8, 8), (31, 31), (32, 32), (31, 1), (32, 1)];
+/// Plain lists, then mixed ones.
+const MIXES: [Mix; 4] = [
+    ("reach", &[Algebra::Reach]),
+    ("distance", &[Algebra::Distance]),
+    ("steepest", &[Algebra::Steepest]),
+    ("mixed", &Algebra::ALL),
+];
+
+/// The algebras that the jobs of a list go through in turn, with a name.
+type Mix = (&'static str, &'static [Algebra]);
 
 fn main() {
     let mut random = Random::new(SEED);
@@ -66,16 +77,16 @@ fn main() {
         return;
     }
     for (order, size) in ARRAYS {
-        arrays(&mut random, "array", order, size, 65535);
+        arrays(&mut random, "array", &MIXES, order, size, 65535);
     }
     for (order, size) in SINGLE_TICKS {
-        arrays(&mut random, "one tick a run", order, size, 1);
+        arrays(&mut random, "one tick a run", &MIXES[..3], order, size, 1);
     }
     for (order, size) in LISTS {
-        for algebra in Algebra::ALL {
+        for mix in MIXES {
             // Words short enough for a text.
-            let jobs = jobs_of(&mut random, algebra, order, size, Kind::SmallWords);
-            sheets(&mut random, &jobs);
+            let jobs = jobs_of(&mut random, mix, order, size, Kind::SmallWords);
+            sheets(&mut random, mix.0, &jobs);
         }
     }
     for size in WAY_SIZES {
@@ -89,7 +100,7 @@ fn main() {
 fn roads(random: &mut Random) {
     for (what, file) in road_files(random) {
         let times = road_times(&file);
-        row(what, MAX_SIZE, Algebra::Distance, &times, "ns a byte");
+        row(what, MAX_SIZE, "distance", &times, "ns a byte");
     }
 }
 
@@ -103,7 +114,7 @@ fn sizes_named() -> Vec<usize> {
 }
 
 /// The times are ours, rust's and, where there is one, the other's.
-fn row(what: &str, size: usize, algebra: Algebra, times: &[f64], unit: &str) {
+fn row(what: &str, size: usize, algebra: &str, times: &[f64], unit: &str) {
     let (ours, rust, other) = (times[0], times[1], times.get(2));
     let figures = [
         Some(ours),
@@ -116,7 +127,7 @@ fn row(what: &str, size: usize, algebra: Algebra, times: &[f64], unit: &str) {
         Some(figure) => format!("{figure:>11.2}"),
         None => format!("{:>11}", "-"),
     });
-    let (algebra, columns) = (algebra.name(), columns.concat());
+    let columns = columns.concat();
     println!("{what:<26}{size:>5}  {algebra:<9}{columns}  {unit}");
 }
 
@@ -160,7 +171,7 @@ fn eliminations(random: &mut Random, algebra: Algebra, size: usize) {
     row(
         "elimination",
         size,
-        algebra,
+        algebra.name(),
         &times.map(|time| time / count as f64),
         "ns a table",
     );
@@ -197,7 +208,7 @@ fn all_ways(random: &mut Random, algebra: Algebra, size: usize) {
     let times = best_times_in(WAY_ROUNDS, rounds);
     let scale = (size * size * 1000) as f64;
     let times = times.map(|time| time / scale);
-    row("way", size, algebra, &times, "us a way");
+    row("way", size, algebra.name(), &times, "us a way");
 }
 
 fn over_pairs(hall: &Hall, search: Search, look: impl Fn(usize, usize, Result<&[u16], u32>)) {
@@ -211,33 +222,36 @@ fn over_pairs(hall: &Hall, search: Search, look: impl Fn(usize, usize, Result<&[
 }
 
 /// 16 jobs of one size.
-fn jobs_of(
-    random: &mut Random,
-    algebra: Algebra,
-    order: usize,
-    size: usize,
-    kind: Kind,
-) -> JobList {
-    let mut jobs = list(random, algebra, size, 16, Sizes::Full, &[kind]);
+fn jobs_of(random: &mut Random, (_, turn): Mix, order: usize, size: usize, kind: Kind) -> JobList {
+    let turn = turn.iter().copied().cycle();
+    let algebras: Vec<Algebra> = turn.take(MAX_JOBS).collect();
+    let mut jobs = list(random, &algebras, size, Sizes::Full, &[kind]);
     jobs.order = order as u16;
     jobs
 }
 
-/// In runs of `allowance` ticks, in all algebras.
-fn arrays(random: &mut Random, what: &str, order: usize, size: usize, allowance: u16) {
+/// In runs of `allowance` ticks.
+fn arrays(
+    random: &mut Random,
+    what: &str,
+    mixes: &[Mix],
+    order: usize,
+    size: usize,
+    allowance: u16,
+) {
     let what = match size {
         1 => format!("{what}, 1 point"),
         _ => what.to_string(),
     };
-    for algebra in Algebra::ALL {
-        let jobs = jobs_of(random, algebra, order, size, Kind::FullRange);
-        let steps = (total(order, 16) * order * order) as f64;
+    for &mix in mixes {
+        let jobs = jobs_of(random, mix, order, size, Kind::FullRange);
+        let steps = (total(order, MAX_JOBS) * order * order) as f64;
         let times = array_times(&jobs, allowance).map(|time| time / steps);
-        row(&what, order, algebra, &times, "ns a cell and tick");
+        row(&what, order, mix.0, &times, "ns a cell and tick");
     }
 }
 
-fn sheets(random: &mut Random, jobs: &JobList) {
+fn sheets(random: &mut Random, name: &str, jobs: &JobList) {
     let text = text(random, Freedom(0), jobs);
     let mut page = vec![0; PAGE];
     let length = sheet_call::print(&text, &mut page);
@@ -252,11 +266,5 @@ fn sheets(random: &mut Random, jobs: &JobList) {
         Box::new(|| assert_eq!(sheet(black_box(&text)).len(), length)),
     ]);
     let times = times.map(|time| time / 1000.0);
-    row(
-        "bench",
-        jobs.order.into(),
-        jobs.algebra,
-        &times,
-        "us a text",
-    );
+    row("bench", jobs.order.into(), name, &times, "us a text");
 }

@@ -1,9 +1,8 @@
 //! Holds the proved calls Start and Run, through their C calls, against the reference: after every call its answer, and
 //! every word of state, results, scratch and ticks made. Lists of all orders are started and run in pieces of any
 //! length, with refused calls between, and states that nobody started are run as well. Ends with status 1 at the first
-//! difference, and where a kind of call was met too seldom.
+//! difference, and where a kind of call was not met.
 
-use reference::algebra::Algebra;
 use reference::elimination::tables::Kind;
 use reference::job_text::{JobList, MAX_JOBS};
 use reference::random::Random;
@@ -11,22 +10,21 @@ use reference::systolic::checks::eliminations;
 use reference::systolic::damage_sets::damage_sets;
 use reference::systolic::lending::{run_both_ways, start_both_ways};
 use reference::systolic::memory::{RunCall, StartCall};
-use reference::systolic::moments::{allowance, alter, any_list, any_words, Pace};
+use reference::systolic::moments::{allowance, alter, any_list, any_list_where, any_words, Pace};
 use reference::systolic::moments::{right_run, right_start};
 use reference::systolic::run_damages::{damage_run, RunDamage};
 use reference::systolic::start_damages::{damage_start, StartDamage};
 use reference::systolic::state::Header;
 use reference::systolic::tally::{RunKind, Tally};
-use reference::texts::lists::{list, Sizes};
+use reference::texts::lists::{drawn_list, Sizes};
 use std::process::exit;
 
 const SEED: u64 = 0x5EED_0F0A_7AB1_E005;
-/// For each algebra.
-const LISTS: usize = 9_000;
-/// For each algebra and of each order, with most jobs; the first of them a tick at a time.
-const LARGE_LISTS: usize = 40;
+const LISTS: usize = 27_000;
+/// Of each order, with most jobs; the first of them a tick at a time.
+const LARGE_LISTS: usize = 120;
 const LARGE_ORDERS: [usize; 2] = [31, 32];
-const LARGE_SINGLE: usize = 4;
+const LARGE_SINGLE: usize = 12;
 /// More than a list a tick at a time has ticks.
 const MOST_RUNS: usize = 3_000;
 
@@ -49,54 +47,49 @@ fn main() {
     comparison.compare_start_damages();
     comparison.compare_run_damages();
     let tally = &comparison.tally;
-    let enough = print_tally(tally);
+    let all_met = print_tally(tally);
     let ([starts, starts_refused], [runs, runs_refused]) = (tally.starts(), tally.runs());
     println!(
-        "compare_array: {} lists, {starts} starts and {starts_refused} refused, {runs} runs and {runs_refused} refused, 0 differences",
-        tally.lists()
+        "compare_array: {} lists, {} of them mixed, {starts} starts and {starts_refused} refused, {runs} runs and {runs_refused} refused, 0 differences",
+        tally.lists(),
+        tally.mixed()
     );
-    if !enough {
+    if !all_met {
         exit(1);
     }
 }
 
-/// Whether each kind of call was met often enough.
+/// Whether each kind of call was met.
 fn print_tally(tally: &Tally) -> bool {
-    let mut enough = true;
-    for (kind, met, fewest) in tally.rows() {
-        let remark = match met < fewest {
-            true => format!("  too few: wanted {fewest}"),
-            false => String::new(),
-        };
+    let rows = tally.rows();
+    for (kind, met) in &rows {
+        let remark = if *met == 0 { "  not met" } else { "" };
         println!("{kind:<40}{met:>8}{remark}");
-        enough &= met >= fewest;
     }
-    enough
+    rows.iter().all(|&(_, met)| met > 0)
 }
 
 impl Comparison {
     fn compare_lists(&mut self) {
-        for algebra in Algebra::ALL {
-            for _ in 0..LISTS {
-                let list = any_list(&mut self.random, algebra);
-                let paces = match list.order {
-                    0..=8 => &[Pace::Whole, Pace::Single, Pace::Pieces, Pace::Pieces][..],
-                    _ => &[Pace::Whole, Pace::Pieces],
-                };
-                let pace = self.random.pick(paces);
-                self.compare_list(&list, pace);
-            }
-            for order in LARGE_ORDERS {
-                self.compare_large_lists(algebra, order);
-            }
+        for _ in 0..LISTS {
+            let list = any_list(&mut self.random);
+            let paces = match list.order {
+                0..=8 => &[Pace::Whole, Pace::Single, Pace::Pieces, Pace::Pieces][..],
+                _ => &[Pace::Whole, Pace::Pieces],
+            };
+            let pace = self.random.pick(paces);
+            self.compare_list(&list, pace);
+        }
+        for order in LARGE_ORDERS {
+            self.compare_large_lists(order);
         }
     }
 
-    fn compare_large_lists(&mut self, algebra: Algebra, order: usize) {
+    fn compare_large_lists(&mut self, order: usize) {
         for at in 0..LARGE_LISTS {
             let random = &mut self.random;
             let sizes = random.pick(&Sizes::ALL);
-            let list = list(random, algebra, order, MAX_JOBS, sizes, &Kind::ALL);
+            let list = drawn_list(random, order, MAX_JOBS, sizes, &Kind::ALL);
             let pace = match at < LARGE_SINGLE {
                 true => Pace::Single,
                 false => self.random.pick(&[Pace::Whole, Pace::Pieces]),
@@ -123,7 +116,7 @@ impl Comparison {
             if self.random.one_in(refused) {
                 self.compare_refused(&call);
             }
-            // A change may have made the jobs unfit for the state's algebra.
+            // A change may have made a job's words unfit for its algebra.
             if number != 0 || self.random.one_in(altered) {
                 alter(&mut self.random, &mut call);
                 changed = true;
@@ -144,7 +137,7 @@ impl Comparison {
         let mut start = right_start(&mut self.random, list);
         if self.random.one_in(3) {
             let damage = self.random.pick(&StartDamage::ALL);
-            if damage != StartDamage::Word || list.algebra == Algebra::Reach {
+            if damage != StartDamage::Word || list.has_reach() {
                 self.compare_damaged_start(start.clone(), &[damage]);
             }
         }
@@ -174,7 +167,7 @@ impl Comparison {
 
     /// One or two damages to a copy of the run.
     fn compare_refused(&mut self, call: &RunCall) {
-        let in_reach = call.header().algebra == Algebra::Reach;
+        let in_reach = call.jobs.algebras.contains(&0);
         let fit = RunDamage::ALL.into_iter();
         let fit: Vec<RunDamage> = fit
             .filter(|&damage| damage != RunDamage::Word || in_reach)
@@ -187,8 +180,7 @@ impl Comparison {
     fn compare_start_damages(&mut self) {
         for damages in damage_sets(&mut self.random, &StartDamage::ALL) {
             self.next_case();
-            let algebra = self.algebra_for(damages.contains(&StartDamage::Word));
-            let list = any_list(&mut self.random, algebra);
+            let list = self.list_for(damages.contains(&StartDamage::Word));
             let call = right_start(&mut self.random, &list);
             self.compare_damaged_start(call, &damages);
         }
@@ -197,19 +189,15 @@ impl Comparison {
     fn compare_run_damages(&mut self) {
         for damages in damage_sets(&mut self.random, &RunDamage::ALL) {
             self.next_case();
-            let algebra = self.algebra_for(damages.contains(&RunDamage::Word));
-            let list = any_list(&mut self.random, algebra);
+            let list = self.list_for(damages.contains(&RunDamage::Word));
             let call = right_run(&mut self.random, &list);
             self.compare_damaged_run(call, &damages);
         }
     }
 
     /// Only reach has words that are refused.
-    fn algebra_for(&mut self, in_reach: bool) -> Algebra {
-        match in_reach {
-            true => Algebra::Reach,
-            false => self.random.pick(&Algebra::ALL),
-        }
+    fn list_for(&mut self, with_reach: bool) -> JobList {
+        any_list_where(&mut self.random, |list| list.has_reach() || !with_reach)
     }
 
     fn compare_damaged_start(&mut self, mut call: StartCall, damages: &[StartDamage]) {
@@ -217,17 +205,19 @@ impl Comparison {
         let number = self.compare_start(&mut call);
         let first = damages.iter().min().map(|damage| damage.number());
         assert_eq!(Some(number), first, "the reference contradicts itself");
+        if let [damage] = damages {
+            self.tally.count_start_damage(*damage, &call.jobs);
+        }
     }
 
     fn compare_damaged_run(&mut self, mut call: RunCall, damages: &[RunDamage]) {
         let order = call.header().order;
         damage_run(&mut self.random, &mut call, damages);
-        let scratch_len = call.scratch.len();
         let number = self.compare_run(&mut call, true);
         let first = damages.iter().min().map(|damage| damage.number());
         assert_eq!(Some(number), first, "the reference contradicts itself");
         if let [damage] = damages {
-            self.tally.count_damage(*damage, order, scratch_len);
+            self.tally.count_run_damage(*damage, order, &call);
         }
     }
 
@@ -240,9 +230,10 @@ impl Comparison {
                 number
             }
             Err(what) => {
-                let (algebra, order, jobs) = (call.algebra, call.order, call.jobs.sizes.len());
+                let (order, algebras) = (call.order, &call.jobs.algebras);
+                let sizes = &call.jobs.sizes;
                 self.fail(&format!(
-                    "Start, algebra {algebra}, order {order}, {jobs} jobs: {what}"
+                    "Start, order {order}, algebras {algebras:?}, sizes {sizes:?}: {what}"
                 ))
             }
         }
@@ -262,8 +253,9 @@ impl Comparison {
             }
             Err(what) => {
                 let (allowance, sizes) = (call.allowance, &call.jobs.sizes);
+                let algebras = &call.jobs.algebras;
                 self.fail(&format!(
-                    "Run, {header:?}, allowance {allowance}, sizes {sizes:?}: {what}"
+                    "Run, {header:?}, allowance {allowance}, algebras {algebras:?}, sizes {sizes:?}: {what}"
                 ))
             }
         }

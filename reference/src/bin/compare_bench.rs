@@ -4,9 +4,8 @@
 //!     compare_bench PROGRAM [PERCENT]
 //!
 //! PERCENT scales the number of texts, 100 if it is not given. Ends with status 1 on any difference, and where a kind
-//! of text was met too seldom.
+//! of text was not met.
 
-use reference::algebra::Algebra;
 use reference::bench::program_call::printed;
 use reference::bench::sheet::{accepted, refused};
 use reference::bench::tally::Tally;
@@ -64,13 +63,15 @@ fn main() {
         differences: 0,
     };
     comparison.compare_all(percent);
-    let enough = print_tally(&comparison.tally, percent);
+    let all_met = print_tally(&comparison.tally);
     println!(
-        "compare_bench: {} texts, {} differences",
+        "compare_bench: {} texts, {} accepted, {} of them mixed, {} differences",
         comparison.tally.texts(),
+        comparison.tally.accepted(),
+        comparison.tally.mixed(),
         comparison.differences
     );
-    if comparison.differences > 0 || !enough {
+    if comparison.differences > 0 || !all_met {
         exit(1);
     }
 }
@@ -91,20 +92,14 @@ fn arguments() -> (PathBuf, usize) {
     }
 }
 
-/// Whether each kind of text was met often enough.
-fn print_tally(tally: &Tally, percent: usize) -> bool {
-    let mut enough = true;
-    for (kind, met, fewest) in tally.rows() {
-        // A smaller comparison has to meet fewer, but some.
-        let fewest = (fewest * percent.min(100) / 100).max(1);
-        let remark = match met < fewest {
-            true => format!("  too few: wanted {fewest}"),
-            false => String::new(),
-        };
-        println!("{kind:<30} {met:>6}{remark}");
-        enough &= met >= fewest;
+/// Whether each kind of text was met.
+fn print_tally(tally: &Tally) -> bool {
+    let rows = tally.rows();
+    for (kind, met) in &rows {
+        let remark = if *met == 0 { "  not met" } else { "" };
+        println!("{kind:<40}{met:>6}{remark}");
     }
-    enough
+    rows.iter().all(|&(_, met)| met > 0)
 }
 
 impl Comparison {
@@ -179,29 +174,25 @@ impl Comparison {
 }
 
 fn small_text(random: &mut Random) -> Vec<u8> {
-    let algebra = random.pick(&Algebra::ALL);
-    let (freedom, list) = (Freedom::any(random), small_list(random, algebra));
+    let (freedom, list) = (Freedom::any(random), small_list(random));
     text(random, freedom, &list)
 }
 
 fn medium_text(random: &mut Random) -> Vec<u8> {
-    let algebra = random.pick(&Algebra::ALL);
-    let (freedom, list) = (Freedom::any(random), medium_list(random, algebra));
+    let (freedom, list) = (Freedom::any(random), medium_list(random));
     text(random, freedom, &list)
 }
 
 /// With little freedom, as much more would make it too long.
 fn largest_text(random: &mut Random) -> Vec<u8> {
-    let algebra = random.pick(&Algebra::ALL);
     let freedom = Freedom(random.pick(&[0, 20]));
-    let list = largest_list(random, algebra);
+    let list = largest_list(random);
     text(random, freedom, &list)
 }
 
 /// With no freedom, as there is no room for it.
 fn longest_text(random: &mut Random) -> Vec<u8> {
-    let algebra = random.pick(&[Algebra::Distance, Algebra::Steepest]);
-    let list = longest_list(random, algebra);
+    let list = longest_list(random);
     text(random, Freedom(0), &list)
 }
 

@@ -1,5 +1,5 @@
 //! The reader of a job text, from "Job text and bench program" and the row "Text" of the table of tests in document
-//! 01. It is meant to be plain, and not to be fast.
+//! 01, with K8 of document 02: each job names its algebra. It is meant to be plain, and not to be fast.
 
 pub mod line;
 
@@ -17,24 +17,68 @@ pub const MAX_JOBS: usize = 16;
 #[derive(Clone, Debug, PartialEq, Eq)]
 pub struct JobList {
     pub order: u16,
-    pub algebra: Algebra,
+    /// One a job, as the sizes are.
+    pub algebras: Vec<Algebra>,
     pub sizes: Vec<u16>,
     pub weights: Vec<u16>,
 }
 
+/// One job of a list.
+#[derive(Clone, Copy, Debug, PartialEq, Eq)]
+pub struct Job<'a> {
+    pub algebra: Algebra,
+    pub size: usize,
+    pub weights: &'a [u16],
+}
+
 impl JobList {
-    /// Each job's size and its weights.
-    pub fn jobs(&self) -> Vec<(usize, &[u16])> {
-        let mut rest = &self.weights[..];
-        let mut jobs = Vec::new();
-        for &size in &self.sizes {
-            let size = usize::from(size);
-            let (weights, later) = rest.split_at(size * size);
-            jobs.push((size, weights));
-            rest = later;
+    /// Of no jobs.
+    pub fn new(order: u16) -> JobList {
+        JobList {
+            order,
+            algebras: Vec::new(),
+            sizes: Vec::new(),
+            weights: Vec::new(),
         }
-        jobs
     }
+
+    pub fn push(&mut self, job: Job) {
+        self.algebras.push(job.algebra);
+        self.sizes.push(job.size as u16);
+        self.weights.extend(job.weights);
+    }
+
+    pub fn jobs(&self) -> Vec<Job<'_>> {
+        jobs(self.algebras.iter().copied(), &self.sizes, &self.weights)
+    }
+
+    pub fn has_reach(&self) -> bool {
+        self.algebras.contains(&Algebra::Reach)
+    }
+
+    /// Of more than one algebra.
+    pub fn is_mixed(&self) -> bool {
+        self.algebras.windows(2).any(|pair| pair[0] != pair[1])
+    }
+}
+
+/// The jobs of as many algebras and sizes, and of weights that fit them.
+pub fn jobs<'a>(
+    algebras: impl Iterator<Item = Algebra>,
+    sizes: &[u16],
+    mut weights: &'a [u16],
+) -> Vec<Job<'a>> {
+    let parts = algebras.zip(sizes).map(|(algebra, &size)| {
+        let size = usize::from(size);
+        let (part, later) = weights.split_at(size * size);
+        weights = later;
+        Job {
+            algebra,
+            size,
+            weights: part,
+        }
+    });
+    parts.collect()
 }
 
 #[derive(Clone, Copy, Debug, PartialEq, Eq)]
@@ -98,13 +142,8 @@ impl Reader {
     fn new() -> Reader {
         Reader {
             due: Due::List,
-            // Order and algebra are set by the list's own line, before anything asks for them.
-            list: JobList {
-                order: 0,
-                algebra: Algebra::Reach,
-                sizes: Vec::new(),
-                weights: Vec::new(),
-            },
+            // The order is set by the list's own line, before anything asks for it.
+            list: JobList::new(0),
         }
     }
 
@@ -124,10 +163,9 @@ impl Reader {
     }
 
     fn list_line(&mut self, parts: &[&[u8]]) -> Result<(), u16> {
-        let &[order, name] = parts else {
+        let &[order] = parts else {
             return Err(14);
         };
-        let algebra = algebra_named(name).ok_or(14u16)?;
         if !is_numeral(order) {
             return Err(14);
         }
@@ -136,15 +174,15 @@ impl Reader {
             return Err(6);
         }
         self.list.order = order;
-        self.list.algebra = algebra;
         self.due = Due::JobOrListEnd;
         Ok(())
     }
 
     fn job_line(&mut self, parts: &[&[u8]]) -> Result<(), u16> {
-        let &[size] = parts else {
+        let &[size, name] = parts else {
             return Err(14);
         };
+        let algebra = algebra_named(name).ok_or(14u16)?;
         if !is_numeral(size) {
             return Err(14);
         }
@@ -155,6 +193,7 @@ impl Reader {
         if self.list.sizes.len() == MAX_JOBS {
             return Err(7);
         }
+        self.list.algebras.push(algebra);
         self.list.sizes.push(size);
         self.due = Due::Row(size);
         Ok(())
@@ -164,11 +203,12 @@ impl Reader {
         if !parts.iter().all(|part| is_numeral(part) || *part == b"-") {
             return Err(14);
         }
-        let algebra = self.list.algebra;
+        // The open job is the last one.
+        let open = self.list.algebras.last().zip(self.list.sizes.last());
+        let (&algebra, &size) = open.expect("a row is due in a job alone");
         let words: Option<Vec<u16>> = parts.iter().map(|part| word(algebra, part)).collect();
         let words = words.ok_or(15u16)?;
-        // The open job is the last one.
-        if self.list.sizes.last().map(|&size| size.into()) != Some(words.len()) {
+        if words.len() != usize::from(size) {
             return Err(16);
         }
         if algebra == Algebra::Reach && words.iter().any(|&word| word > 1) {

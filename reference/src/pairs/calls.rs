@@ -29,7 +29,7 @@ impl Calls for Proved {
     }
 
     fn start(&self, call: &mut StartCall) -> u32 {
-        array::start(call.algebra, call.order, call.jobs.lent(), &mut call.state)
+        array::start(call.order, call.jobs.lent(), &mut call.state)
     }
 
     fn run(&self, call: &mut RunCall) -> u32 {

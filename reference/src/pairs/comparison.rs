@@ -1,10 +1,10 @@
-//! Pairs closed by the elimination, by arrays, and one table each way, through calls that are given; what they leave is
-//! judged and counted.
+//! Pairs closed by the elimination, by one array, by two, and one table each way, through calls that are given; what
+//! they leave is judged and counted.
 
 use crate::algebra::Algebra;
 use crate::pairs::calls::Calls;
 use crate::pairs::judge::{judge, Answer};
-use crate::pairs::lists::{Side, TwoLists};
+use crate::pairs::lists::{OneList, Side, TwoLists};
 use crate::pairs::runs::{run_list, Ran};
 use crate::pairs::tables::Pair;
 use crate::pairs::tally::{Closing, Tally};
@@ -42,31 +42,46 @@ impl<C: Calls> Comparison<C> {
         self.compare(Closing::Elimination, &pair, &answers, "")
     }
 
-    pub fn by_arrays(&mut self, algebra: Algebra) -> Result<(), String> {
+    pub fn by_one_array(&mut self, algebra: Algebra) -> Result<(), String> {
+        self.case += 1;
+        let one = OneList::any(&mut self.random, algebra);
+        let ran = self.run(Closing::OneArray, &one.side)?;
+        self.tally.count_one_array(&one);
+        for (at, pair) in one.pairs.iter().enumerate() {
+            let places = one.places(at);
+            let answers = places.map(|place| ran.answer(place));
+            let [reach, other] = places;
+            let about = format!("{} and job {other}, ", place(&ran, reach));
+            self.compare(Closing::OneArray, pair, &answers, &about)?;
+        }
+        Ok(())
+    }
+
+    pub fn by_two_arrays(&mut self, algebra: Algebra) -> Result<(), String> {
         self.case += 1;
         let lists = TwoLists::any(&mut self.random, algebra);
         let [reach, other] = &lists.sides;
         let rans = [
-            self.run(Closing::Arrays, reach)?,
-            self.run(Closing::Arrays, other)?,
+            self.run(Closing::TwoArrays, reach)?,
+            self.run(Closing::TwoArrays, other)?,
         ];
-        self.tally.count_arrays(&lists, &rans);
+        self.tally.count_two_arrays(&lists, &rans);
         for (at, pair) in lists.pairs.iter().enumerate() {
             let places = [0, 1].map(|side| lists.sides[side].places[at]);
             let answers = [0, 1].map(|side| rans[side].answer(places[side]));
             let [reach, other] = [0, 1].map(|side| place(&rans[side], places[side]));
             let about = format!("{reach} and {other}, ");
-            self.compare(Closing::Arrays, pair, &answers, &about)?;
+            self.compare(Closing::TwoArrays, pair, &answers, &about)?;
         }
         Ok(())
     }
 
-    pub fn mixed(&mut self, algebra: Algebra) -> Result<(), String> {
+    pub fn each_way(&mut self, algebra: Algebra) -> Result<(), String> {
         self.case += 1;
         let lists = TwoLists::any(&mut self.random, algebra);
         let side = self.random.below(2);
-        let ran = self.run(Closing::Mixed, &lists.sides[side])?;
-        self.tally.count_mixed(side);
+        let ran = self.run(Closing::EachWay, &lists.sides[side])?;
+        self.tally.count_each_way(side);
         for (pair, &job) in lists.pairs.iter().zip(&lists.sides[side].places) {
             let by_array = ran.answer(job);
             let by_elimination = self.eliminate(pair, 1 - side)?;
@@ -75,7 +90,7 @@ impl<C: Calls> Comparison<C> {
                 _ => [by_elimination, by_array],
             };
             let about = format!("{} in {}, ", place(&ran, job), pair.algebras[side].name());
-            self.compare(Closing::Mixed, pair, &answers, &about)?;
+            self.compare(Closing::EachWay, pair, &answers, &about)?;
         }
         Ok(())
     }
@@ -94,11 +109,11 @@ impl<C: Calls> Comparison<C> {
 
     fn run(&mut self, closing: Closing, side: &Side) -> Result<Ran, String> {
         let ran = run_list(&mut self.random, &self.calls, side).map_err(|what| {
-            let (name, order) = (side.list.algebra.name(), side.list.order);
-            let about = format!("{name}, order {order}, sizes {:?}: ", side.list.sizes);
+            let (order, algebras) = (side.list.order, &side.list.algebras);
+            let about = format!("order {order}, {algebras:?}, sizes {:?}: ", side.list.sizes);
             self.located(closing, &format!("{about}{what}"))
         })?;
-        self.tally.count_list(closing, &ran, &side.places);
+        self.tally.count_list(closing, &ran, side);
         Ok(ran)
     }
 

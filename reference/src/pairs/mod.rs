@@ -4,6 +4,7 @@
 pub mod calls;
 pub mod comparison;
 pub mod judge;
+mod kinds;
 pub mod lists;
 pub mod runs;
 pub mod search;

@@ -1,6 +1,5 @@
 //! A list started and run in pieces through the calls, with refused calls between, and stopped anywhere.
 
-use crate::algebra::Algebra;
 use crate::pairs::calls::Calls;
 use crate::pairs::judge::Answer;
 use crate::pairs::lists::Side;
@@ -163,9 +162,9 @@ impl<C: Calls> Runner<'_, C> {
     }
 
     fn refuse_run(&mut self) -> Result<(), String> {
-        let in_reach = self.side.list.algebra == Algebra::Reach;
+        let has_reach = self.side.list.has_reach();
         let damage = match self.random.pick(&RunDamage::ALL) {
-            RunDamage::Word if !in_reach => RunDamage::ScratchLen,
+            RunDamage::Word if !has_reach => RunDamage::ScratchLen,
             damage => damage,
         };
         let mut wrong = self.call.clone();
@@ -180,7 +179,7 @@ impl<C: Calls> Runner<'_, C> {
     fn refuse_start(&mut self) -> Result<(), String> {
         let list = &self.side.list;
         let damage = match self.random.pick(&StartDamage::ALL) {
-            StartDamage::Word if list.algebra != Algebra::Reach => StartDamage::Algebra,
+            StartDamage::Word if !list.has_reach() => StartDamage::Algebra,
             damage => damage,
         };
         let mut wrong = right_start(self.random, list);

@@ -3,6 +3,7 @@
 use crate::algebra::Algebra;
 use crate::elimination::lengths::{is_far, lengths};
 use crate::elimination::tables::any_word;
+use crate::job_text::Job;
 use crate::random::Random;
 use crate::ways::tables::{layout, Kind};
 
@@ -40,6 +41,15 @@ impl Pair {
             size,
             algebras: [Algebra::Reach, algebra],
             tables: [reach, other],
+        }
+    }
+
+    /// One of the two tables.
+    pub fn job(&self, side: usize) -> Job<'_> {
+        Job {
+            algebra: self.algebras[side],
+            size: self.size,
+            weights: &self.tables[side],
         }
     }
 

@@ -1,4 +1,4 @@
-//! The calls Start and Run, as "Start and run" in document 01 and K5 of document 02 state them, on lent memory.
+//! The calls Start and Run, as "Start and run" in document 01 and K5 and K8 of document 02 state them, on lent memory.
 
 use crate::systolic::cell_rule::Array;
 use crate::systolic::refusal::{run_refusal, start_refusal};
@@ -6,11 +6,11 @@ use crate::systolic::state::Header;
 use crate::systolic::Jobs;
 
 /// Returns 0, or the number of the refusal.
-pub fn start(algebra: u32, order: usize, jobs: Jobs, state: &mut [u16]) -> u32 {
-    let number = start_refusal(algebra, order, jobs, state.len());
+pub fn start(order: usize, jobs: Jobs, state: &mut [u16]) -> u32 {
+    let number = start_refusal(order, jobs, state.len());
     if number == 0 {
         state.fill(0);
-        state[..3].copy_from_slice(&[order as u16, algebra as u16, jobs.sizes.len() as u16]);
+        state[..3].copy_from_slice(&[order as u16, 0, jobs.sizes.len() as u16]);
     }
     number
 }
@@ -31,7 +31,7 @@ pub fn run(
     let header = Header::read(state).expect("the state is tested");
     let ticks = header.ticks_left().min(allowance.into());
     let end = header.tick + ticks;
-    let mut array = Array::new(header.order, header.algebra, jobs, &state[4..]);
+    let mut array = Array::new(header.order, &jobs.tested(), &state[4..]);
     for tick in header.tick..end {
         array.tick(tick, results);
     }

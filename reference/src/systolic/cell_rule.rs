@@ -1,21 +1,39 @@
-//! "Feeder" and "Cell rule" in document 01: one tick of every cell, on registers that hold any words. It is not meant to
-//! be fast, but what depends on s alone is worked out once.
+//! "Feeder" and "Cell rule" in document 01, with K8 of document 02: one tick of every cell, in the algebra of the job it
+//! is on, on registers that hold any words. It is not meant to be fast, but what depends on s alone is worked out once.
 
 use crate::algebra::Algebra;
-use crate::systolic::{part_starts, Jobs, Leaving};
+use crate::job_text::Job;
+use crate::systolic::Leaving;
 
-/// A job's table as it is fed: padded to the order with none, and its whole diagonal the own word.
-fn padded(algebra: Algebra, order: usize, size: usize, weights: &[u16]) -> Vec<u16> {
-    let mut fed = vec![algebra.none(); order * order];
-    for i in 0..size {
-        for j in 0..size {
-            fed[i * order + j] = weights[i * size + j];
+/// A job as it is fed, and where its results go.
+struct Fed {
+    algebra: Algebra,
+    size: usize,
+    /// Where its part of the results begins.
+    start: usize,
+    /// Padded to the order with none, and the whole diagonal the own word.
+    table: Vec<u16>,
+}
+
+impl Fed {
+    fn new(order: usize, start: usize, job: &Job) -> Fed {
+        let (algebra, size) = (job.algebra, job.size);
+        let mut table = vec![algebra.none(); order * order];
+        for i in 0..size {
+            for j in 0..size {
+                table[i * order + j] = job.weights[i * size + j];
+            }
+        }
+        for i in 0..order {
+            table[i * order + i] = algebra.own();
+        }
+        Fed {
+            algebra,
+            size,
+            start,
+            table,
         }
     }
-    for i in 0..order {
-        fed[i * order + i] = algebra.own();
-    }
-    fed
 }
 
 #[derive(Clone, Copy)]
@@ -35,10 +53,7 @@ struct Step {
 
 pub struct Array {
     n: usize,
-    algebra: Algebra,
-    sizes: Vec<usize>,
-    starts: Vec<usize>,
-    fed: Vec<Vec<u16>>,
+    jobs: Vec<Fed>,
     /// By s, from 0 to 4NQ - 1.
     steps: Vec<Step>,
     /// Row by row, the registers of before the tick.
@@ -47,14 +62,14 @@ pub struct Array {
 
 impl Array {
     /// The planes are c, a and b, row by row. Nothing is tested.
-    pub fn new(order: usize, algebra: Algebra, jobs: Jobs, planes: &[u16]) -> Array {
+    pub fn new(order: usize, jobs: &[Job], planes: &[u16]) -> Array {
         let area = order * order;
-        let sizes: Vec<usize> = jobs.sizes.iter().map(|&size| size.into()).collect();
-        let starts = part_starts(jobs.sizes);
-        let parts = sizes.iter().zip(&starts);
-        let fed = parts
-            .map(|(&size, &start)| padded(algebra, order, size, &jobs.weights[start..]))
-            .collect();
+        let mut next = 0;
+        let fed = jobs.iter().map(|job| {
+            let start = next;
+            next += job.weights.len();
+            Fed::new(order, start, job)
+        });
         let step = |s| Step {
             q: s / (4 * order),
             p: (s / order) % 4,
@@ -67,11 +82,8 @@ impl Array {
         };
         Array {
             n: order,
-            algebra,
-            steps: (0..4 * order * sizes.len()).map(step).collect(),
-            sizes,
-            starts,
-            fed,
+            jobs: fed.collect(),
+            steps: (0..4 * order * jobs.len()).map(step).collect(),
             cells: (0..area).map(cell).collect(),
         }
     }
@@ -124,22 +136,23 @@ impl Array {
     /// Cell (i, j) after the step.
     fn stepped(&self, i: usize, j: usize, step: Step) -> Cell {
         let (n, Step { q, p, k }) = (self.n, step);
+        let Fed { algebra, table, .. } = &self.jobs[q];
         let a_in = match j {
-            0 if p == 0 => self.fed[q][i * n + k],
+            0 if p == 0 => table[i * n + k],
             0 => self.cells[i * n + n - 1].a,
             _ => self.cells[i * n + j - 1].a,
         };
         let b_in = match i {
-            0 if p == 0 => self.fed[q][k * n + j],
+            0 if p == 0 => table[k * n + j],
             0 => self.cells[(n - 1) * n + j].b,
             _ => self.cells[(i - 1) * n + j].b,
         };
         let mut c = match (p, k) {
-            (0, 0) => self.algebra.none(),
+            (0, 0) => algebra.none(),
             _ => self.cells[i * n + j].c,
         };
         if p < 3 {
-            c = self.algebra.sum(c, self.algebra.product(a_in, b_in));
+            c = algebra.sum(c, algebra.product(a_in, b_in));
         }
         Cell {
             a: if k == j { c } else { a_in },
@@ -150,11 +163,14 @@ impl Array {
 
     /// Writes entry (i, k) of job q if it lies inside the job's size, and says whether it does.
     fn send_out(&self, i: usize, Step { q, k, .. }: Step, word: u16, results: &mut [u16]) -> bool {
-        let size = self.sizes[q];
+        let &Fed { size, start, .. } = &self.jobs[q];
         let inside = i < size && k < size;
         if inside {
-            results[self.starts[q] + i * size + k] = word;
+            results[start + i * size + k] = word;
         }
         inside
     }
 }
+
+#[cfg(test)]
+mod wrong_cells;

@@ -43,9 +43,9 @@ fn wanted_leavings(list: &JobList) -> Vec<Leaving> {
     leavings
 }
 
-/// Each job eliminated by itself and not padded.
+/// Each job eliminated by itself in its own algebra, and not padded.
 pub fn eliminations(list: &JobList) -> Vec<u16> {
     let jobs = list.jobs().into_iter();
-    jobs.flat_map(|(size, weights)| eliminate(list.algebra, size, weights))
+    jobs.flat_map(|job| eliminate(job.algebra, job.size, job.weights))
         .collect()
 }

@@ -5,7 +5,8 @@ use crate::systolic::Jobs;
 #[cfg(array_archive)]
 extern "C" {
     fn array_start(
-        algebra: u32,
+        algebras: *const u16,
+        algebras_len: usize,
         order: usize,
         sizes: *const u16,
         sizes_len: usize,
@@ -18,6 +19,8 @@ extern "C" {
     fn array_run(
         state: *mut u16,
         state_len: usize,
+        algebras: *const u16,
+        algebras_len: usize,
         sizes: *const u16,
         sizes_len: usize,
         weights: *const u16,
@@ -33,12 +36,13 @@ extern "C" {
 
 /// Returns 0, or the number of the refusal.
 #[cfg(array_archive)]
-pub fn start(algebra: u32, order: usize, jobs: Jobs, state: &mut [u16]) -> u32 {
+pub fn start(order: usize, jobs: Jobs, state: &mut [u16]) -> u32 {
     // SAFETY: each pointer goes with its own slice's length, a slice's pointer is never null, and a slice that is
     // lent mutably overlaps no other. The call has no other demand: it refuses what it cannot take.
     unsafe {
         array_start(
-            algebra,
+            jobs.algebras.as_ptr(),
+            jobs.algebras.len(),
             order,
             jobs.sizes.as_ptr(),
             jobs.sizes.len(),
@@ -65,6 +69,8 @@ pub fn run(
         array_run(
             state.as_mut_ptr(),
             state.len(),
+            jobs.algebras.as_ptr(),
+            jobs.algebras.len(),
             jobs.sizes.as_ptr(),
             jobs.sizes.len(),
             jobs.weights.as_ptr(),
@@ -85,7 +91,7 @@ const MISSING: &str =
 
 /// In a build that found no archive.
 #[cfg(not(array_archive))]
-pub fn start(_: u32, _: usize, _: Jobs, _: &mut [u16]) -> u32 {
+pub fn start(_: usize, _: Jobs, _: &mut [u16]) -> u32 {
     panic!("{MISSING}")
 }
 

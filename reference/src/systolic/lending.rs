@@ -54,6 +54,7 @@ impl Watched {
 }
 
 struct WatchedJobs {
+    algebras: Watched,
     sizes: Watched,
     weights: Watched,
 }
@@ -61,6 +62,7 @@ struct WatchedJobs {
 impl WatchedJobs {
     fn new(random: &mut Random, jobs: &OwnJobs) -> WatchedJobs {
         WatchedJobs {
+            algebras: Watched::new(random, &jobs.algebras),
             sizes: Watched::new(random, &jobs.sizes),
             weights: Watched::new(random, &jobs.weights),
         }
@@ -68,12 +70,14 @@ impl WatchedJobs {
 
     fn lent(&self) -> Jobs<'_> {
         Jobs {
+            algebras: self.algebras.part(),
             sizes: self.sizes.part(),
             weights: self.weights.part(),
         }
     }
 
     fn stayed(&self) -> Result<(), String> {
+        self.algebras.stayed("algebras")?;
         self.sizes.stayed("sizes")?;
         self.weights.stayed("weights")
     }
@@ -108,7 +112,7 @@ fn judge(number: u32, wanted: u32, difference: Option<String>) -> Result<u32, St
 fn lend_start(random: &mut Random, call: &mut StartCall) -> Result<u32, String> {
     let jobs = WatchedJobs::new(random, &call.jobs);
     let mut state = Watched::new(random, &call.state);
-    let number = host_call::start(call.algebra, call.order, jobs.lent(), state.part_mut());
+    let number = host_call::start(call.order, jobs.lent(), state.part_mut());
     jobs.stayed()?;
     call.state = state.taken_back("state")?;
     Ok(number)

@@ -7,13 +7,13 @@ use crate::systolic::Jobs;
 
 #[derive(Clone, Debug, Default, PartialEq, Eq)]
 pub struct OwnJobs {
+    pub algebras: Vec<u16>,
     pub sizes: Vec<u16>,
     pub weights: Vec<u16>,
 }
 
 #[derive(Clone, Debug)]
 pub struct StartCall {
-    pub algebra: u32,
     pub order: usize,
     pub jobs: OwnJobs,
     pub state: Vec<u16>,
@@ -31,7 +31,9 @@ pub struct RunCall {
 
 impl OwnJobs {
     pub fn of(list: &JobList) -> OwnJobs {
+        let algebras = list.algebras.iter();
         OwnJobs {
+            algebras: algebras.map(|algebra| algebra.number() as u16).collect(),
             sizes: list.sizes.clone(),
             weights: list.weights.clone(),
         }
@@ -39,6 +41,7 @@ impl OwnJobs {
 
     pub fn lent(&self) -> Jobs<'_> {
         Jobs {
+            algebras: &self.algebras,
             sizes: &self.sizes,
             weights: &self.weights,
         }
@@ -48,7 +51,7 @@ impl OwnJobs {
 impl StartCall {
     /// As the model makes the call; so too the run below.
     pub fn make(&mut self) -> u32 {
-        calls::start(self.algebra, self.order, self.jobs.lent(), &mut self.state)
+        calls::start(self.order, self.jobs.lent(), &mut self.state)
     }
 
     /// Where the memory after the call is not as wanted.

@@ -19,9 +19,11 @@ pub mod wrong_parts;
 use crate::job_text::JobList;
 use crate::systolic::cell_rule::Array;
 
-/// The jobs lent to a call, right or not. A job's weights begin where the earlier jobs' end, row by row.
+/// The jobs lent to a call, right or not: their algebras by number, one a job. A job's weights begin where the earlier
+/// jobs' end, row by row.
 #[derive(Clone, Copy, Debug)]
 pub struct Jobs<'a> {
+    pub algebras: &'a [u16],
     pub sizes: &'a [u16],
     pub weights: &'a [u16],
 }
@@ -48,11 +50,7 @@ pub struct Leaving {
 /// Ticks until each cell has made its 4NQ steps.
 pub fn run(list: &JobList) -> Outcome {
     let order = usize::from(list.order);
-    let jobs = Jobs {
-        sizes: &list.sizes,
-        weights: &list.weights,
-    };
-    let mut array = Array::new(order, list.algebra, jobs, &vec![0; 3 * order * order]);
+    let mut array = Array::new(order, &list.jobs(), &vec![0; 3 * order * order]);
     let mut outcome = Outcome {
         ticks: 0,
         results: vec![0; list.weights.len()],

@@ -1,16 +1,15 @@
 //! An array as a run may meet it: lists of every order, states in the middle that nobody started, and started ones that
 //! were changed between two runs.
 
-use crate::algebra::Algebra;
 use crate::elimination::tables::Kind;
 use crate::job_text::{JobList, MAX_JOBS, MAX_ORDER};
 use crate::random::Random;
 use crate::systolic::memory::{OwnJobs, RunCall, StartCall};
 use crate::systolic::state::total;
-use crate::texts::lists::{list, Sizes};
+use crate::texts::lists::{drawn_list, Sizes};
 
 /// Mostly small, as their runs are short, and the largest orders more often than those below them.
-pub fn any_list(random: &mut Random, algebra: Algebra) -> JobList {
+pub fn any_list(random: &mut Random) -> JobList {
     let order = match random.below(40) {
         0..=31 => random.between(1, 8),
         32..=36 => random.between(1, MAX_ORDER.into()),
@@ -20,7 +19,17 @@ pub fn any_list(random: &mut Random, algebra: Algebra) -> JobList {
     let most = random.pick(&[1, 2, 3, 4, 4, 6, MAX_JOBS]);
     let jobs = random.between(1, most);
     let sizes = random.pick(&Sizes::ALL);
-    list(random, algebra, order, jobs, sizes, &Kind::ALL)
+    drawn_list(random, order, jobs, sizes, &Kind::ALL)
+}
+
+/// The first that fits.
+pub fn any_list_where(random: &mut Random, fits: impl Fn(&JobList) -> bool) -> JobList {
+    loop {
+        let list = any_list(random);
+        if fits(&list) {
+            return list;
+        }
+    }
 }
 
 /// Of one kind: any, at the ends of the algebras' words, one word everywhere, or such as every algebra has.
@@ -40,7 +49,6 @@ pub fn any_words(random: &mut Random, len: usize) -> Vec<u16> {
 pub fn right_start(random: &mut Random, list: &JobList) -> StartCall {
     let order = usize::from(list.order);
     StartCall {
-        algebra: list.algebra.number(),
         order,
         jobs: OwnJobs::of(list),
         state: any_words(random, 4 + 3 * order * order),
@@ -52,12 +60,7 @@ pub fn right_run(random: &mut Random, list: &JobList) -> RunCall {
     let order = usize::from(list.order);
     let jobs = list.sizes.len();
     let tick = any_tick(random, order, jobs);
-    let header = [
-        list.order,
-        list.algebra.number() as u16,
-        jobs as u16,
-        tick as u16,
-    ];
+    let header = [list.order, 0, jobs as u16, tick as u16];
     RunCall {
         state: [&header[..], &any_words(random, 3 * order * order)].concat(),
         jobs: OwnJobs::of(list),
@@ -92,11 +95,12 @@ pub fn alter(random: &mut Random, call: &mut RunCall) {
         }
         3 => call.state[3] = any_tick(random, order, jobs) as u16,
         4 => call.results = any_words(random, call.results.len()),
-        5 => call.state[1] = random.below(3) as u16,
-        // A run reads the jobs lent to it in that call: here others than before.
+        // A run reads the jobs lent to it in that call: here others than before, or one of them in another algebra,
+        // which test 5 may refuse.
+        5 => call.jobs.algebras[random.below(jobs)] = random.below(3) as u16,
         _ => {
             let sizes = random.pick(&Sizes::ALL);
-            let others = list(random, header.algebra, order, jobs, sizes, &Kind::ALL);
+            let others = drawn_list(random, order, jobs, sizes, &Kind::ALL);
             call.jobs = OwnJobs::of(&others);
             call.results = any_words(random, others.weights.len());
         }

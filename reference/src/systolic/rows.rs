@@ -7,7 +7,6 @@ use std::ops::Range;
 
 pub struct RowArray {
     n: usize,
-    algebra: Algebra,
     jobs: usize,
     tick: usize,
     c: Vec<u16>,
@@ -19,6 +18,7 @@ pub struct RowArray {
 
 /// The jobs lent to a run, with the place in the weights and the results where each begins.
 pub struct Lent<'a> {
+    pub algebras: &'a [Algebra],
     pub sizes: &'a [u16],
     pub starts: &'a [usize],
     pub weights: &'a [u16],
@@ -57,10 +57,9 @@ impl Step {
 
 impl RowArray {
     /// The arguments are not tested, here nor in `run`.
-    pub fn start(order: usize, algebra: Algebra, jobs: usize) -> RowArray {
+    pub fn start(order: usize, jobs: usize) -> RowArray {
         RowArray {
             n: order,
-            algebra,
             jobs,
             tick: 0,
             c: vec![0; order * order],
@@ -81,23 +80,6 @@ impl RowArray {
     pub fn run(&mut self, allowance: usize, lent: &Lent, results: &mut [u16]) -> usize {
         let total = 4 * self.n * self.jobs + 2 * self.n - 2;
         let ticks = allowance.min(total - self.tick);
-        // One match here, and none in the loops: each arm is compiled for its own sum and product.
-        match self.algebra {
-            Algebra::Reach => self.ticks(ticks, lent, results, u16::max, u16::min),
-            Algebra::Distance => self.ticks(ticks, lent, results, u16::min, joined),
-            Algebra::Steepest => self.ticks(ticks, lent, results, u16::min, u16::max),
-        }
-        ticks
-    }
-
-    fn ticks(
-        &mut self,
-        ticks: usize,
-        lent: &Lent,
-        results: &mut [u16],
-        sum: impl Fn(u16, u16) -> u16 + Copy,
-        product: impl Fn(u16, u16) -> u16 + Copy,
-    ) {
         for _ in 0..ticks {
             let top = Step {
                 passes: self.tick / self.n,
@@ -109,13 +91,14 @@ impl RowArray {
                 if !columns.is_empty() {
                     let step = top.before(self.n, i);
                     self.feed_left(lent, i, step);
-                    self.sum_row(i, step, columns.clone(), sum, product);
+                    self.sum_row(lent, i, step, columns.clone());
                     self.shift_row(i, step, columns.clone());
                     self.send_out(lent, i, step, columns, results);
                 }
             }
             self.tick += 1;
         }
+        ticks
     }
 
     /// The columns of the cells in row i that make a step on this tick, which is not below i.
@@ -147,23 +130,46 @@ impl RowArray {
     }
 
     fn fed(&self, lent: &Lent, job: usize, i: usize, j: usize) -> u16 {
-        let size = usize::from(lent.sizes[job]);
+        let (algebra, size) = (lent.algebras[job], usize::from(lent.sizes[job]));
         if i == j {
-            self.algebra.own()
+            algebra.own()
         } else if i < size && j < size {
             lent.weights[lent.starts[job] + i * size + j]
         } else {
-            self.algebra.none()
+            algebra.none()
         }
     }
 
-    /// c of the cells of row i, whose first cell is at `step`; the rows below have gone before. What comes in to a cell
-    /// lies before it in its row of `a`, and above it in `b`.
+    /// c of the cells of row i, whose first cell is at `step`; the rows below have gone before.
+    fn sum_row(&mut self, lent: &Lent, i: usize, step: Step, columns: Range<usize>) {
+        // Past the last job no cell sums. Else those that do are all on this job: a cell behind on the job before is in
+        // its last pass.
+        let Some(&algebra) = lent.algebras.get(step.job()) else {
+            return;
+        };
+        // s falls along the row: in column k a pass begins, and the cells after it are one pass behind.
+        if step.pass() == 0 && columns.contains(&step.k) {
+            self.c[i * self.n + step.k] = algebra.none();
+        }
+        let behind = columns.end.min(step.k + 1);
+        let sums = match step.pass() {
+            0 => columns.start..behind,
+            3 => behind..columns.end,
+            _ => columns,
+        };
+        // One match for a row: each arm is compiled for its own sum and product.
+        match algebra {
+            Algebra::Reach => self.sum_cells(i, sums, u16::max, u16::min),
+            Algebra::Distance => self.sum_cells(i, sums, u16::min, joined),
+            Algebra::Steepest => self.sum_cells(i, sums, u16::min, u16::max),
+        }
+    }
+
+    /// What comes in to a cell lies before it in its row of `a`, and above it in `b`.
     #[inline(always)]
-    fn sum_row(
+    fn sum_cells(
         &mut self,
         i: usize,
-        step: Step,
         columns: Range<usize>,
         sum: impl Fn(u16, u16) -> u16,
         product: impl Fn(u16, u16) -> u16,
@@ -172,19 +178,8 @@ impl RowArray {
         let c = &mut self.c[i * n..(i + 1) * n];
         let a = &self.a[i * (n + 1)..(i + 1) * (n + 1)];
         let above = &self.b[i * n..(i + 1) * n];
-        // s falls along the row: in column k a pass begins, and the cells after it are one pass behind. Where the first
-        // cells have ended, those left are all behind.
-        if step.pass() == 0 && columns.contains(&step.k) {
-            c[step.k] = self.algebra.none();
-        }
-        let behind = columns.end.min(step.k + 1);
-        let sums = match step.pass() {
-            0 => columns.start..behind,
-            3 => behind..columns.end,
-            _ => columns,
-        };
-        let ins = a[sums.clone()].iter().zip(&above[sums.clone()]);
-        for (c, (&a, &b)) in c[sums].iter_mut().zip(ins) {
+        let ins = a[columns.clone()].iter().zip(&above[columns.clone()]);
+        for (c, (&a, &b)) in c[columns].iter_mut().zip(ins) {
             *c = sum(*c, product(a, b));
         }
     }

@@ -10,29 +10,34 @@ use crate::systolic::wrong_parts::*;
 #[derive(Clone, Copy, Debug, PartialEq, Eq, PartialOrd, Ord)]
 pub enum RunDamage {
     Order,
-    Algebra,
+    /// Of the state, where the algebra was before K8.
+    SecondWord,
     Jobs,
     Tick,
     StateLen,
     StateShort,
     SizesLen,
+    AlgebrasLen,
+    Algebra,
     Size,
     WeightsLen,
     ScratchLen,
     ResultsLen,
-    /// Where the state's algebra is reach.
+    /// In a job in reach.
     Word,
 }
 
 impl RunDamage {
-    pub const ALL: [RunDamage; 12] = [
+    pub const ALL: [RunDamage; 14] = [
         RunDamage::Order,
-        RunDamage::Algebra,
+        RunDamage::SecondWord,
         RunDamage::Jobs,
         RunDamage::Tick,
         RunDamage::StateLen,
         RunDamage::StateShort,
         RunDamage::SizesLen,
+        RunDamage::AlgebrasLen,
+        RunDamage::Algebra,
         RunDamage::Size,
         RunDamage::WeightsLen,
         RunDamage::ScratchLen,
@@ -44,12 +49,13 @@ impl RunDamage {
     pub fn number(self) -> u32 {
         match self {
             RunDamage::Order
-            | RunDamage::Algebra
+            | RunDamage::SecondWord
             | RunDamage::Jobs
             | RunDamage::Tick
             | RunDamage::StateLen
             | RunDamage::StateShort => 10,
-            RunDamage::SizesLen => 11,
+            RunDamage::SizesLen | RunDamage::AlgebrasLen => 11,
+            RunDamage::Algebra => 1,
             RunDamage::Size => 8,
             RunDamage::WeightsLen => 3,
             RunDamage::ScratchLen => 12,
@@ -70,12 +76,17 @@ pub fn damage_run(random: &mut Random, call: &mut RunCall, damages: &[RunDamage]
     {
         match damage {
             RunDamage::Order => damage_order(random, call, header),
-            RunDamage::Algebra => call.state[1] = high_word(random, 3, call.state[1]),
+            RunDamage::SecondWord => call.state[1] = high_word(random, 1, 0),
             RunDamage::Jobs => damage_jobs(random, call, header),
             RunDamage::Tick => damage_tick(random, call, header),
             RunDamage::StateLen => call.state.resize(wrong_state_len(random, n), 0),
             RunDamage::StateShort => call.state.truncate(random.below(4)),
             RunDamage::SizesLen => damage_count(random, call, header),
+            RunDamage::AlgebrasLen => {
+                let count = wrong_count(random, header.jobs);
+                change_algebras(random, &mut call.jobs, count);
+            }
+            RunDamage::Algebra => damage_algebra(random, &mut call.jobs),
             RunDamage::Size => {
                 damage_size(random, &mut call.jobs, n);
                 fit_results(call);
@@ -92,21 +103,6 @@ pub fn damage_run(random: &mut Random, call: &mut RunCall, damages: &[RunDamage]
             RunDamage::Word => damage_word(random, &mut call.jobs),
         }
     }
-}
-
-/// From `least` on, and some that are `right` where high bits are dropped.
-fn high_word(random: &mut Random, least: u16, right: u16) -> u16 {
-    let any = random.word().max(least);
-    random.pick(&[
-        least,
-        least,
-        least + 1,
-        255,
-        256 + right,
-        32768 + right,
-        65535,
-        any,
-    ])
 }
 
 /// State and scratch stay as they are, or fit the new order.
@@ -151,8 +147,7 @@ fn damage_count(random: &mut Random, call: &mut RunCall, header: Header) {
         call.state[2] = random.between(right + 1, MAX_JOBS) as u16;
         return;
     }
-    let choices = [0, right - 1, right + 1, 1, 16, 17, 2 * right, 256 + right];
-    let count = pick_but(random, &choices, right, right + 1);
+    let count = wrong_count(random, right);
     change_count(random, &mut call.jobs, header.order, count);
     fit_results(call);
 }

@@ -1,6 +1,5 @@
 //! Calls of Start that have to be refused: a right one, damaged in one or more of its parts.
 
-use crate::elimination::damages::wrong_algebra;
 use crate::job_text::MAX_JOBS;
 use crate::random::Random;
 use crate::systolic::memory::StartCall;
@@ -12,18 +11,20 @@ pub enum StartDamage {
     Algebra,
     Order,
     SizesLen,
+    AlgebrasLen,
     Size,
     WeightsLen,
     StateLen,
-    /// In reach.
+    /// In a job in reach.
     Word,
 }
 
 impl StartDamage {
-    pub const ALL: [StartDamage; 7] = [
+    pub const ALL: [StartDamage; 8] = [
         StartDamage::Algebra,
         StartDamage::Order,
         StartDamage::SizesLen,
+        StartDamage::AlgebrasLen,
         StartDamage::Size,
         StartDamage::WeightsLen,
         StartDamage::StateLen,
@@ -35,7 +36,7 @@ impl StartDamage {
         match self {
             StartDamage::Algebra => 1,
             StartDamage::Order => 6,
-            StartDamage::SizesLen => 7,
+            StartDamage::SizesLen | StartDamage::AlgebrasLen => 7,
             StartDamage::Size => 8,
             StartDamage::WeightsLen => 3,
             StartDamage::StateLen => 9,
@@ -47,17 +48,26 @@ impl StartDamage {
 /// Gives a right call each of the damages: the first in the order of the tests is the one that it is refused for.
 pub fn damage_start(random: &mut Random, call: &mut StartCall, damages: &[StartDamage]) {
     let n = call.order;
-    // From the first test to the last: each later damage is one beside those that were made.
-    for damage in StartDamage::ALL
-        .into_iter()
-        .filter(|damage| damages.contains(damage))
-    {
+    // From the first test to the last: each later damage is one beside those that were made. An unknown algebra alone
+    // comes after all, as another number of algebras may leave no place for it.
+    let mut all = StartDamage::ALL;
+    all.rotate_left(1);
+    for damage in all.into_iter().filter(|damage| damages.contains(damage)) {
         match damage {
-            StartDamage::Algebra => call.algebra = wrong_algebra(random, call.algebra),
+            StartDamage::Algebra => {
+                if call.jobs.algebras.is_empty() {
+                    change_algebras(random, &mut call.jobs, 1);
+                }
+                damage_algebra(random, &mut call.jobs);
+            }
             StartDamage::Order => damage_order(random, call),
             StartDamage::SizesLen => {
                 let count = random.pick(&[0, 0, MAX_JOBS + 1, MAX_JOBS + 1, 32, 256 + n]);
                 change_count(random, &mut call.jobs, n, count);
+            }
+            StartDamage::AlgebrasLen => {
+                let count = wrong_count(random, call.jobs.sizes.len());
+                change_algebras(random, &mut call.jobs, count);
             }
             StartDamage::Size => damage_size(random, &mut call.jobs, n),
             StartDamage::WeightsLen => {

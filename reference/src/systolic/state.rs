@@ -1,13 +1,11 @@
-//! The words of a state: N, algebra, Q, tick, then planes c, a, b of N times N words.
+//! The words of a state: N, 0, Q, tick, then planes c, a, b of N times N words. Before K8 the second was the algebra.
 
-use crate::algebra::Algebra;
 use crate::job_text::{MAX_JOBS, MAX_ORDER};
 
 /// The first four words, where they are those of a state.
 #[derive(Clone, Copy, Debug)]
 pub struct Header {
     pub order: usize,
-    pub algebra: Algebra,
     pub jobs: usize,
     pub tick: usize,
 }
@@ -15,12 +13,11 @@ pub struct Header {
 impl Header {
     /// Nothing where test 10 applies.
     pub fn read(state: &[u16]) -> Option<Header> {
-        let [order, algebra, jobs, tick, planes @ ..] = state else {
+        let [order, 0, jobs, tick, planes @ ..] = state else {
             return None;
         };
         let header = Header {
             order: usize::from(*order),
-            algebra: *Algebra::ALL.get(usize::from(*algebra))?,
             jobs: usize::from(*jobs),
             tick: usize::from(*tick),
         };

@@ -2,34 +2,106 @@
 
 use crate::algebra::Algebra;
 use crate::job_text::JobList;
-use crate::systolic::memory::RunCall;
+use crate::systolic::memory::{OwnJobs, RunCall};
 use crate::systolic::refusal::{RUN_NUMBERS, START_NUMBERS};
 use crate::systolic::run_damages::RunDamage;
+use crate::systolic::start_damages::StartDamage;
 use crate::systolic::state::Header;
-use crate::texts::lists::is_largest;
-use std::ops::RangeInclusive;
+use crate::texts::lists::{has_hall_in_two_algebras, is_largest, neighbours_differ};
+use std::collections::BTreeMap;
 
-/// A kind of call, how many were met, and the fewest that a comparison has to meet.
-pub type Row = (String, usize, usize);
+/// A kind of list.
+type ListKind = (&'static str, fn(&JobList) -> bool);
 
-/// Lists by their order, and the fewest to be met.
-const ORDERS: [(&str, RangeInclusive<u16>, usize); 5] = [
-    ("order 1", 1..=1, 1_500),
-    ("order 2 to 8", 2..=8, 10_000),
-    ("order 9 to 30", 9..=30, 1_000),
-    ("order 31", 31..=31, 500),
-    ("order 32", 32..=32, 1_000),
+const LISTS: [ListKind; 13] = [
+    ("lists of order 1", |list| list.order == 1),
+    ("lists of order 2 to 8", |list| {
+        (2..=8).contains(&list.order)
+    }),
+    ("lists of order 9 to 30", |list| {
+        (9..=30).contains(&list.order)
+    }),
+    ("lists of order 31", |list| list.order == 31),
+    ("lists of order 32", |list| list.order == 32),
+    ("lists of order 32 with 16 jobs", is_largest),
+    ("lists in reach alone", |list| {
+        is_plain(list, Algebra::Reach)
+    }),
+    ("lists in distance alone", |list| {
+        is_plain(list, Algebra::Distance)
+    }),
+    ("lists in steepest alone", |list| {
+        is_plain(list, Algebra::Steepest)
+    }),
+    ("mixed lists", JobList::is_mixed),
+    ("mixed lists with no reach", |list| {
+        list.is_mixed() && !list.has_reach()
+    }),
+    ("neighbours of other size and algebra", neighbours_differ),
+    ("one hall in two algebras", has_hall_in_two_algebras),
 ];
 
-/// The damages whose refusal is 10.
-const STATE_DAMAGES: [(RunDamage, &str); 6] = [
-    (RunDamage::StateShort, "a state below 4 words"),
-    (RunDamage::Order, "N"),
-    (RunDamage::Algebra, "the algebra"),
-    (RunDamage::Jobs, "Q"),
-    (RunDamage::StateLen, "the state's length"),
-    (RunDamage::Tick, "the tick"),
+fn is_plain(list: &JobList, algebra: Algebra) -> bool {
+    list.algebras.iter().all(|&other| other == algebra)
+}
+
+/// A kind of accepted run, by what it was lent.
+type RunFact = (&'static str, fn(&RunKind) -> bool);
+
+const RUNS: [RunFact; 9] = [
+    ("runs of allowance 0", |run| run.allowance == 0),
+    ("runs after the end", |run| {
+        run.left() == 0 && run.allowance > 0
+    }),
+    ("runs of one tick", |run| {
+        run.left() > 0 && run.allowance == 1
+    }),
+    ("runs cut short at the end", RunKind::is_cut),
+    ("of these, allowance 65535", |run| {
+        run.is_cut() && run.allowance == 65535
+    }),
+    ("runs on changed memory", |run| {
+        run.makes_ticks() && run.changed
+    }),
+    ("runs with reach on words above 1", |run| {
+        run.makes_ticks() && run.foreign_planes
+    }),
+    ("runs from a seam of two algebras", |run| {
+        run.makes_ticks() && run.at_seam
+    }),
+    ("of these, of one tick", |run| {
+        run.at_seam && run.allowance == 1
+    }),
 ];
+
+/// What may be wrong with the algebras lent to a call, or with a word for its job's algebra.
+type WrongAlgebras = (&'static str, fn(&OwnJobs) -> bool);
+
+const WRONG_ALGEBRAS: [WrongAlgebras; 6] = [
+    ("no algebras", |jobs| jobs.algebras.is_empty()),
+    ("an algebra missing", |jobs| {
+        jobs.algebras.len() + 1 == jobs.sizes.len()
+    }),
+    ("an algebra too many", |jobs| {
+        jobs.algebras.len() == jobs.sizes.len() + 1
+    }),
+    ("the first algebra alone unknown", |jobs| {
+        unknown(jobs) == [0] && jobs.algebras.len() > 1
+    }),
+    ("the last algebra alone unknown", |jobs| {
+        unknown(jobs) == [jobs.algebras.len().wrapping_sub(1)] && jobs.algebras.len() > 1
+    }),
+    ("a wrong word, and reach not first", |jobs| {
+        let are_right = unknown(jobs).is_empty() && jobs.algebras.len() == jobs.sizes.len();
+        are_right && jobs.algebras.first() != Some(&0)
+    }),
+];
+
+/// The places of unknown algebras.
+fn unknown(jobs: &OwnJobs) -> Vec<usize> {
+    let is_unknown = |&at: &usize| Algebra::numbered(jobs.algebras[at]).is_none();
+    (0..jobs.algebras.len()).filter(is_unknown).collect()
+}
 
 /// Wrong lengths of the scratch, by the order.
 type ScratchLen = (&'static str, fn(usize, usize) -> bool);
@@ -44,26 +116,15 @@ const SCRATCH_LENS: [ScratchLen; 5] = [
     }),
 ];
 
+/// Each kind and how many of it were met: one that was not met is wanting.
 #[derive(Default)]
 pub struct Tally {
-    algebras: [usize; 3],
-    orders: [usize; ORDERS.len()],
-    largest: usize,
-    untouched: usize,
-    starts: usize,
-    starts_refused: [usize; 13],
-    runs: usize,
-    runs_refused: [usize; 13],
-    no_allowance: usize,
-    after_the_end: usize,
-    single_ticks: usize,
-    cut_at_the_end: usize,
-    largest_allowance: usize,
-    changed: usize,
-    foreign_planes: usize,
-    /// Runs with this one damage alone.
-    alone: [usize; STATE_DAMAGES.len()],
-    scratch_lens: [usize; SCRATCH_LENS.len()],
+    met: BTreeMap<String, usize>,
+    lists: usize,
+    mixed: usize,
+    /// Accepted and refused.
+    starts: [usize; 2],
+    runs: [usize; 2],
 }
 
 /// What is counted of a run before it is made.
@@ -72,150 +133,159 @@ pub struct RunKind {
     allowance: u16,
     /// Not as Start and runs alone left it.
     changed: bool,
-    /// In reach, and the planes have a word above 1.
+    /// With a job in reach, and the planes have a word above 1.
     foreign_planes: bool,
+    /// The first cell is on a job already, and the last still on the one before, which has another algebra.
+    at_seam: bool,
 }
 
 impl RunKind {
     /// Nothing where test 10 applies.
     pub fn of(call: &RunCall, changed: bool) -> Option<RunKind> {
         let header = Header::read(&call.state)?;
-        let in_reach = header.algebra == Algebra::Reach;
+        let (n, algebras) = (header.order, &call.jobs.algebras);
+        // The last cell is 2N - 2 ticks behind.
+        let job = |behind: usize| header.tick.checked_sub(behind).map(|s| s / (4 * n));
+        let algebra = |behind: usize| job(behind).and_then(|q| algebras.get(q));
+        let two = algebra(0).zip(algebra(2 * n - 2));
         Some(RunKind {
             header,
             allowance: call.allowance,
             changed,
-            foreign_planes: in_reach && call.state[4..].iter().any(|&word| word > 1),
+            foreign_planes: algebras.contains(&0) && call.state[4..].iter().any(|&word| word > 1),
+            at_seam: two.is_some_and(|(first, last)| first != last),
         })
+    }
+
+    fn left(&self) -> usize {
+        self.header.ticks_left()
+    }
+
+    fn makes_ticks(&self) -> bool {
+        self.left() > 0 && self.allowance > 0
+    }
+
+    fn is_cut(&self) -> bool {
+        self.left() > 0 && usize::from(self.allowance) > self.left()
     }
 }
 
 impl Tally {
+    fn count(&mut self, kind: &str) {
+        *self.met.entry(kind.to_string()).or_default() += 1;
+    }
+
     pub fn count_list(&mut self, list: &JobList) {
-        self.algebras[list.algebra.number() as usize] += 1;
-        let classes = ORDERS.iter().zip(&mut self.orders);
-        for (_, count) in classes.filter(|((_, orders, _), _)| orders.contains(&list.order)) {
-            *count += 1;
+        self.lists += 1;
+        self.mixed += usize::from(list.is_mixed());
+        for (kind, _) in LISTS.iter().filter(|(_, fits)| fits(list)) {
+            self.count(kind);
         }
-        self.largest += usize::from(is_largest(list));
     }
 
     /// A list that was started and run to its end in more than one run, and nothing was changed between.
     pub fn count_untouched(&mut self) {
-        self.untouched += 1;
+        self.count(UNTOUCHED);
     }
 
     pub fn count_start(&mut self, number: u32) {
-        match number {
-            0 => self.starts += 1,
-            _ => self.starts_refused[number as usize] += 1,
+        self.starts[usize::from(number != 0)] += 1;
+        if number != 0 {
+            self.count(&start_refused(number));
         }
     }
 
     pub fn count_refused_run(&mut self, number: u32) {
-        self.runs_refused[number as usize] += 1;
+        self.runs[1] += 1;
+        self.count(&run_refused(number));
     }
 
-    pub fn count_run(&mut self, kind: &RunKind) {
-        let (left, allowance) = (kind.header.ticks_left(), kind.allowance);
-        let cut = left > 0 && usize::from(allowance) > left;
-        let ticks = left > 0 && allowance > 0;
-        self.runs += 1;
-        self.no_allowance += usize::from(allowance == 0);
-        self.after_the_end += usize::from(left == 0 && allowance > 0);
-        self.single_ticks += usize::from(left > 0 && allowance == 1);
-        self.cut_at_the_end += usize::from(cut);
-        self.largest_allowance += usize::from(cut && allowance == 65535);
-        self.changed += usize::from(ticks && kind.changed);
-        self.foreign_planes += usize::from(ticks && kind.foreign_planes);
+    pub fn count_run(&mut self, run: &RunKind) {
+        self.runs[0] += 1;
+        for (kind, _) in RUNS.iter().filter(|(_, fits)| fits(run)) {
+            self.count(kind);
+        }
+    }
+
+    /// A right start with this damage alone.
+    pub fn count_start_damage(&mut self, damage: StartDamage, jobs: &OwnJobs) {
+        self.count(&format!("Start, {damage:?} alone"));
+        use StartDamage::{Algebra, AlgebrasLen, Word};
+        if matches!(damage, Algebra | AlgebrasLen | Word) {
+            self.count_algebras("Start", jobs);
+        }
     }
 
     /// A right run of this order with this damage alone.
-    pub fn count_damage(&mut self, damage: RunDamage, order: usize, scratch_len: usize) {
-        let damages = STATE_DAMAGES.iter().zip(&mut self.alone);
-        for (_, count) in damages.filter(|((counted, _), _)| *counted == damage) {
-            *count += 1;
+    pub fn count_run_damage(&mut self, damage: RunDamage, order: usize, call: &RunCall) {
+        self.count(&format!("Run, {damage:?} alone"));
+        use RunDamage::{Algebra, AlgebrasLen, Word};
+        if matches!(damage, Algebra | AlgebrasLen | Word) {
+            self.count_algebras("Run", &call.jobs);
         }
-        if damage == RunDamage::ScratchLen {
-            let lens = SCRATCH_LENS.iter().zip(&mut self.scratch_lens);
-            for (_, count) in lens.filter(|((_, fits), _)| fits(order, scratch_len)) {
-                *count += 1;
-            }
+        let is_scratch = damage == RunDamage::ScratchLen;
+        let lens = SCRATCH_LENS.iter().filter(|_| is_scratch);
+        for (kind, _) in lens.filter(|(_, fits)| fits(order, call.scratch.len())) {
+            self.count(&format!("Run, {kind}"));
+        }
+    }
+
+    fn count_algebras(&mut self, call: &str, jobs: &OwnJobs) {
+        for (kind, _) in WRONG_ALGEBRAS.iter().filter(|(_, fits)| fits(jobs)) {
+            self.count(&format!("{call}, {kind}"));
         }
     }
 
     pub fn lists(&self) -> usize {
-        self.algebras.iter().sum()
+        self.lists
     }
 
-    /// Accepted and refused.
+    pub fn mixed(&self) -> usize {
+        self.mixed
+    }
+
+    /// Accepted and refused; so too the runs.
     pub fn starts(&self) -> [usize; 2] {
-        [self.starts, self.starts_refused.iter().sum()]
+        self.starts
     }
 
-    /// Accepted and refused.
     pub fn runs(&self) -> [usize; 2] {
-        [self.runs, self.runs_refused.iter().sum()]
+        self.runs
     }
 
-    pub fn rows(&self) -> Vec<Row> {
-        let mut rows = self.list_rows();
-        rows.extend(self.run_rows());
-        rows.extend(self.refusal_rows());
-        rows
-    }
-
-    fn list_rows(&self) -> Vec<Row> {
-        let mut rows = Vec::new();
-        for (name, met) in ["reach", "distance", "steepest"].iter().zip(self.algebras) {
-            rows.push((format!("lists in {name}"), met, 8_000));
-        }
-        for ((orders, _, fewest), met) in ORDERS.into_iter().zip(self.orders) {
-            rows.push((format!("lists of {orders}"), met, fewest));
-        }
-        rows.push(row("lists of order 32 with 16 jobs", self.largest, 100));
-        rows.push(row(
-            "run to the end, nothing changed",
-            self.untouched,
-            5_000,
-        ));
-        rows
-    }
-
-    fn run_rows(&self) -> Vec<Row> {
-        vec![
-            row("starts accepted", self.starts, 10_000),
-            row("runs accepted", self.runs, 200_000),
-            row("runs of allowance 0", self.no_allowance, 8_000),
-            row("runs after the end", self.after_the_end, 20_000),
-            row("runs of one tick", self.single_ticks, 150_000),
-            row("runs cut short at the end", self.cut_at_the_end, 8_000),
-            row("of these, allowance 65535", self.largest_allowance, 3_000),
-            row("runs on changed memory", self.changed, 50_000),
-            row("runs in reach on words above 1", self.foreign_planes, 5_000),
-        ]
-    }
-
-    fn refusal_rows(&self) -> Vec<Row> {
-        let mut rows = Vec::new();
-        for number in START_NUMBERS {
-            let met = self.starts_refused[number as usize];
-            rows.push((format!("Start refused with {number}"), met, 2_000));
-        }
-        for number in RUN_NUMBERS {
-            let met = self.runs_refused[number as usize];
-            rows.push((format!("Run refused with {number}"), met, 3_000));
-        }
-        for ((_, part), met) in STATE_DAMAGES.into_iter().zip(self.alone) {
-            rows.push((format!("10 for {part} alone"), met, 3_000));
-        }
-        for ((len, _), met) in SCRATCH_LENS.into_iter().zip(self.scratch_lens) {
-            rows.push((format!("12 for {len} alone"), met, 300));
-        }
-        rows
+    /// Each kind that a comparison has to meet, and how many were.
+    pub fn rows(&self) -> Vec<(String, usize)> {
+        let kinds = kinds().into_iter();
+        kinds
+            .map(|kind| {
+                let met = self.met.get(&kind).copied();
+                (kind, met.unwrap_or(0))
+            })
+            .collect()
     }
 }
 
-fn row(kind: &str, met: usize, fewest: usize) -> Row {
-    (kind.to_string(), met, fewest)
+const UNTOUCHED: &str = "run to the end, nothing changed";
+
+fn start_refused(number: u32) -> String {
+    format!("Start refused with {number}")
+}
+
+fn run_refused(number: u32) -> String {
+    format!("Run refused with {number}")
+}
+
+fn kinds() -> Vec<String> {
+    let mut kinds: Vec<String> = LISTS.iter().map(|(kind, _)| kind.to_string()).collect();
+    kinds.push(UNTOUCHED.to_string());
+    kinds.extend(RUNS.iter().map(|(kind, _)| kind.to_string()));
+    kinds.extend(START_NUMBERS.map(start_refused));
+    kinds.extend(RUN_NUMBERS.map(run_refused));
+    kinds.extend(StartDamage::ALL.map(|damage| format!("Start, {damage:?} alone")));
+    kinds.extend(RunDamage::ALL.map(|damage| format!("Run, {damage:?} alone")));
+    for (kind, _) in WRONG_ALGEBRAS {
+        kinds.extend([format!("Start, {kind}"), format!("Run, {kind}")]);
+    }
+    kinds.extend(SCRATCH_LENS.map(|(kind, _)| format!("Run, {kind}")));
+    kinds
 }

@@ -3,6 +3,7 @@
 use crate::elimination::damages::wrong_word;
 use crate::random::Random;
 use crate::systolic::memory::OwnJobs;
+use crate::systolic::part_starts;
 use crate::ways::wrong_parts;
 
 /// Memory that is made to fit a wrong number has at most as many words.
@@ -16,13 +17,50 @@ pub fn pick_but(random: &mut Random, choices: &[usize], right: usize, other: usi
     }
 }
 
-/// Another number of jobs. The weights stay as they are, or fit the new sizes.
+/// From `least` on, and some that are `right` where high bits are dropped.
+pub fn high_word(random: &mut Random, least: u16, right: u16) -> u16 {
+    let any = random.word().max(least);
+    random.pick(&[
+        least,
+        least,
+        least + 1,
+        255,
+        256 + right,
+        32768 + right,
+        65535,
+        any,
+    ])
+}
+
+/// Another number of jobs. The algebras and the weights stay as they are, or fit the new sizes.
 pub fn change_count(random: &mut Random, jobs: &mut OwnJobs, order: usize, count: usize) {
-    while jobs.sizes.len() < count {
-        jobs.sizes.push(random.between(1, order) as u16);
+    jobs.sizes
+        .resize_with(count, || random.between(1, order) as u16);
+    if random.one_in(2) {
+        change_algebras(random, jobs, count);
     }
-    jobs.sizes.truncate(count);
     fit_weights_perhaps(random, jobs);
+}
+
+/// Another number of algebras.
+pub fn change_algebras(random: &mut Random, jobs: &mut OwnJobs, count: usize) {
+    jobs.algebras.resize_with(count, || random.below(3) as u16);
+}
+
+/// Not `right`.
+pub fn wrong_count(random: &mut Random, right: usize) -> usize {
+    let less = right.saturating_sub(1);
+    let choices = [0, less, right + 1, 1, 16, 17, 2 * right, 256 + right];
+    pick_but(random, &choices, right, right + 1)
+}
+
+/// A number that no algebra has, in any place; where there is none, nothing.
+pub fn damage_algebra(random: &mut Random, jobs: &mut OwnJobs) {
+    if let Some(last) = jobs.algebras.len().checked_sub(1) {
+        let anywhere = random.below(last + 1);
+        let place = random.pick(&[0, last, anywhere]);
+        jobs.algebras[place] = high_word(random, 3, jobs.algebras[place]);
+    }
 }
 
 /// A size outside 1 to the order. Some are right ones where high bits are dropped.
@@ -62,14 +100,25 @@ pub fn wrong_words_len(random: &mut Random, jobs: &OwnJobs, order: usize) -> usi
     }
 }
 
-/// A word that reach has not, anywhere in the weights.
+/// A word that reach has not, anywhere in the jobs in reach.
 pub fn damage_word(random: &mut Random, jobs: &mut OwnJobs) {
-    if !jobs.weights.is_empty() {
-        let ends = [0, jobs.weights.len() - 1];
-        let anywhere = random.below(jobs.weights.len());
-        let place = random.pick(&[ends[0], ends[1], anywhere, anywhere, anywhere]);
+    let places = reach_places(jobs);
+    if let (Some(&first), Some(&last)) = (places.first(), places.last()) {
+        let anywhere = random.pick(&places);
+        let place = random.pick(&[first, last, anywhere, anywhere, anywhere]);
         jobs.weights[place] = wrong_word(random, 1).1;
     }
+}
+
+/// Where the words of the jobs in reach lie, if the sizes are right.
+fn reach_places(jobs: &OwnJobs) -> Vec<usize> {
+    let starts = part_starts(&jobs.sizes);
+    let parts = jobs.algebras.iter().zip(&jobs.sizes).zip(&starts);
+    let in_reach = parts.filter(|((&algebra, _), _)| algebra == 0);
+    let within = |place: usize| place.min(jobs.weights.len());
+    in_reach
+        .flat_map(|((_, &size), &start)| within(start)..within(start + usize::from(size).pow(2)))
+        .collect()
 }
 
 /// Not 4 + 3N² and not below 4: a plane missing, the header missing, another order's, or a little off.

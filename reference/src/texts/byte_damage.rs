@@ -1,6 +1,5 @@
 //! Job texts that are damaged byte by byte, and texts that never were any.
 
-use crate::algebra::Algebra;
 use crate::random::Random;
 use crate::texts::lists::small_list;
 use crate::texts::odd_parts::{any_part, ENDS, NAMES};
@@ -11,9 +10,8 @@ const BYTES: &[u8] = b"  ()()--;0123456789\n\n\r\t\0rjlw\x0b\x0c/:,[]\x1f!\x7f\x
 
 /// A small list's text with one damage or a few.
 pub fn damaged_bytes(random: &mut Random) -> Vec<u8> {
-    let algebra = random.pick(&Algebra::ALL);
     let freedom = Freedom::any(random);
-    let list = small_list(random, algebra);
+    let list = small_list(random);
     let mut bytes = text(random, freedom, &list);
     for _ in 0..random.pick(&[1, 1, 1, 2, 3]) {
         if !bytes.is_empty() {
@@ -93,7 +91,13 @@ pub fn senseless_text(random: &mut Random) -> Vec<u8> {
 
 fn any_token(random: &mut Random) -> Vec<u8> {
     let token = match random.below(5) {
-        0 => random.pick(&["(list 2 reach", "(list 1 distance", "(job 1", "(row 1)"]),
+        0 => random.pick(&[
+            "(list 2",
+            "(list 1",
+            "(job 1 reach",
+            "(job 2 distance",
+            "(row 1)",
+        ]),
         1 => any_part(random),
         2 => random.pick(&NAMES),
         3 => random.pick(&ENDS),

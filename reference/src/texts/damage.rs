@@ -2,7 +2,6 @@
 //! meant for one refusal, but what a text has to be refused with is for the reader to say: a later damage may come
 //! first, and some are none.
 
-use crate::algebra::Algebra;
 use crate::random::Random;
 use crate::texts::form_damage::*;
 use crate::texts::line_damage::*;
@@ -27,6 +26,7 @@ fn damages(number: u16) -> &'static [Damage] {
             odd_name,
             odd_end,
             odd_algebra,
+            old_form,
             drop_part,
             add_part,
             drop_line,
@@ -44,12 +44,8 @@ fn damages(number: u16) -> &'static [Damage] {
 
 /// A small list with a damage for the refusal, and some with others beside it.
 pub fn damaged_text(random: &mut Random, number: u16) -> Vec<u8> {
-    let algebra = match number {
-        5 => Algebra::Reach,
-        _ => random.pick(&Algebra::ALL),
-    };
     let freedom = Freedom::any(random);
-    let list = small_list(random, algebra);
+    let list = small_list(random);
     let mut lines = draft(random, freedom, &list);
     random.pick(damages(number))(random, &mut lines);
     while random.one_in(4) {
@@ -61,9 +57,8 @@ pub fn damaged_text(random: &mut Random, number: u16) -> Vec<u8> {
 
 /// One line with several damages, which the order of the tests has to part.
 pub fn mixed_text(random: &mut Random) -> Vec<u8> {
-    let algebra = random.pick(&Algebra::ALL);
     let freedom = Freedom::any(random);
-    let list = small_list(random, algebra);
+    let list = small_list(random);
     let mut lines = draft(random, freedom, &list);
     let any = random.below(lines.len());
     // The line of the list, that of its first job, the first row, or any.

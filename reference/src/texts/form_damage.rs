@@ -1,7 +1,9 @@
 //! Single damages of a drafted text that mostly make a line no form, or not the form due. A text of no lines stays as
 //! it is.
 
+use crate::algebra::Algebra;
 use crate::random::Random;
+use crate::texts::line_damage::line_named;
 use crate::texts::odd_parts::*;
 use crate::texts::writing::{Draft, Line};
 
@@ -71,11 +73,8 @@ pub fn odd_part(random: &mut Random, lines: &mut Draft) {
 /// The `-` of a row, which is right outside reach, where it is none.
 pub fn odd_dash(random: &mut Random, lines: &mut Draft) {
     let name = random.pick(&[&b"(list"[..], b"(job"]);
-    let line = lines
-        .iter_mut()
-        .find(|line| line.parts.first().is_some_and(|part| part == name));
-    if let Some(line) = line {
-        put_part(random, line, "-");
+    if let Some(at) = line_named(random, lines, name) {
+        put_part(random, &mut lines[at], "-");
     }
 }
 
@@ -92,8 +91,22 @@ pub fn odd_end(random: &mut Random, lines: &mut Draft) {
 }
 
 pub fn odd_algebra(random: &mut Random, lines: &mut Draft) {
-    if let Some(part) = lines.first_mut().and_then(|line| line.parts.get_mut(2)) {
-        *part = random.pick(&ALGEBRAS).into();
+    if let Some(at) = line_named(random, lines, b"(job") {
+        if let Some(part) = lines[at].parts.get_mut(2) {
+            *part = random.pick(&ALGEBRAS).into();
+        }
+    }
+}
+
+/// As before K8: an algebra on the list's line, none on a job's, or both.
+pub fn old_form(random: &mut Random, lines: &mut Draft) {
+    let (on_list, on_job) = random.pick(&[(true, false), (false, true), (true, true)]);
+    if let Some(at) = line_named(random, lines, b"(job").filter(|_| on_job) {
+        lines[at].parts.truncate(2);
+    }
+    if let Some(at) = line_named(random, lines, b"(list").filter(|_| on_list) {
+        let algebra = random.pick(&Algebra::ALL);
+        lines[at].parts.push(algebra.name().into());
     }
 }
 

@@ -6,7 +6,7 @@ use crate::random::Random;
 use crate::texts::odd_parts::*;
 use crate::texts::writing::{Draft, Line};
 
-/// The lines whose first part is `name`.
+/// The lines whose first part is `name`; so too the next.
 fn lines_named(lines: &[Line], name: &[u8]) -> Vec<usize> {
     let is_named = |line: &Line| line.parts.first().is_some_and(|part| part == name);
     (0..lines.len())
@@ -14,25 +14,55 @@ fn lines_named(lines: &[Line], name: &[u8]) -> Vec<usize> {
         .collect()
 }
 
-fn line_named(random: &mut Random, lines: &[Line], name: &[u8]) -> Option<usize> {
+pub fn line_named(random: &mut Random, lines: &[Line], name: &[u8]) -> Option<usize> {
     let at = lines_named(lines, name);
     (!at.is_empty()).then(|| random.pick(&at))
 }
 
-/// Puts `part` in the place of one of the parts after the name.
+/// Puts `part` in the place of a row's word, or of the number on a list's or a job's line.
 fn set_part(random: &mut Random, lines: &mut [Line], name: &[u8], part: &[u8]) {
     if let Some(at) = line_named(random, lines, name) {
-        let parts = &mut lines[at].parts;
-        if parts.len() > 1 {
-            let place = random.between(1, parts.len() - 1);
-            parts[place] = part.to_vec();
+        set_part_of(random, &mut lines[at], part);
+    }
+}
+
+fn set_part_of(random: &mut Random, line: &mut Line, part: &[u8]) {
+    let is_row = line.parts.first().is_some_and(|name| name == b"(row");
+    let last = if is_row { line.parts.len() - 1 } else { 1 };
+    let place = random.between(1, last.max(1));
+    if let Some(old) = line.parts.get_mut(place) {
+        *old = part.to_vec();
+    }
+}
+
+/// In a row of a job in reach; where there is none, a job is made one.
+fn set_reach_word(random: &mut Random, lines: &mut Draft, part: &[u8]) {
+    if rows_in_reach(lines).is_empty() {
+        to_reach(random, lines);
+    }
+    let rows = rows_in_reach(lines);
+    if !rows.is_empty() {
+        let at = random.pick(&rows);
+        set_part_of(random, &mut lines[at], part);
+    }
+}
+
+fn rows_in_reach(lines: &[Line]) -> Vec<usize> {
+    let mut in_reach = false;
+    let mut rows = Vec::new();
+    for (at, line) in lines.iter().enumerate() {
+        match line.parts.first().map(Vec::as_slice) {
+            Some(b"(job") => in_reach = line.parts.get(2).is_some_and(|name| name == b"reach"),
+            Some(b"(row") if in_reach => rows.push(at),
+            _ => {}
         }
     }
+    rows
 }
 
 pub fn reach_word(random: &mut Random, lines: &mut Draft) {
     let word = random.pick(&ABOVE_ONE).as_bytes();
-    set_part(random, lines, b"(row", word);
+    set_reach_word(random, lines, word);
 }
 
 pub fn odd_word(random: &mut Random, lines: &mut Draft) {
@@ -40,9 +70,12 @@ pub fn odd_word(random: &mut Random, lines: &mut Draft) {
     set_part(random, lines, b"(row", part);
 }
 
-pub fn to_reach(_: &mut Random, lines: &mut Draft) {
-    if let Some(part) = lines.first_mut().and_then(|line| line.parts.get_mut(2)) {
-        *part = b"reach".to_vec();
+/// Some job, whose words and `-` may be those of another algebra.
+pub fn to_reach(random: &mut Random, lines: &mut Draft) {
+    if let Some(at) = line_named(random, lines, b"(job") {
+        if let Some(part) = lines[at].parts.get_mut(2) {
+            *part = b"reach".to_vec();
+        }
     }
 }
 
@@ -103,9 +136,18 @@ pub fn odd_job_too_many(random: &mut Random, lines: &mut Draft) {
     let jobs = lines_named(lines, b"(job");
     let job = random.pick(&[MAX_JOBS - 1, MAX_JOBS, MAX_JOBS, MAX_JOBS, MAX_JOBS + 1]);
     if let Some(&at) = jobs.get(job) {
-        let parts = random.pick(&[&NUMERALS[..], &NO_SIZES, &LONG_NUMERALS, &ODD_PARTS]);
+        let parts = random.pick(&[
+            &NUMERALS[..],
+            &NO_SIZES,
+            &LONG_NUMERALS,
+            &ODD_PARTS,
+            &ALGEBRAS,
+        ]);
         let part = random.pick(parts);
-        lines[at].parts[1..].fill(part.as_bytes().to_vec());
+        let place = random.pick(&[1, 1, 1, 2]);
+        if let Some(old) = lines[at].parts.get_mut(place) {
+            *old = part.into();
+        }
     }
 }
 
@@ -119,8 +161,7 @@ pub fn long_numeral(random: &mut Random, lines: &mut Draft) {
 
 /// In a row it is wrong only in reach.
 pub fn dash(random: &mut Random, lines: &mut Draft) {
-    to_reach(random, lines);
-    set_part(random, lines, b"(row", b"-");
+    set_reach_word(random, lines, b"-");
 }
 
 pub fn row_length(random: &mut Random, lines: &mut Draft) {

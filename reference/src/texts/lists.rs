@@ -1,9 +1,9 @@
-//! Random lists of jobs, with sizes and tables that meet different ends of the array.
+//! Random lists of jobs, with algebras, sizes and tables that meet different ends of the array.
 
 use crate::algebra::Algebra;
 use crate::elimination::lengths::{self, lengths};
 use crate::elimination::tables::{table, Kind};
-use crate::job_text::{JobList, MAX_JOBS, MAX_ORDER};
+use crate::job_text::{Job, JobList, MAX_JOBS, MAX_ORDER};
 use crate::random::Random;
 
 #[derive(Clone, Copy, Debug)]
@@ -12,7 +12,8 @@ pub enum Sizes {
     Full,
     /// No job has the size of the one before it.
     NeighboursDiffer,
-    /// So too, and every job is the first points of one hall.
+    /// Every job is the first points of one hall, and no job is the one before it: it has another size, or the same
+    /// links in another algebra.
     SameHall,
 }
 
@@ -28,8 +29,18 @@ impl Sizes {
 /// Kinds whose words are short enough that a text can hold the largest list.
 const SHORT: [Kind; 4] = [Kind::Sparse, Kind::SmallWords, Kind::AllNone, Kind::AllZero];
 
+/// One for each job. Of the lists with several jobs two in three are mixed, and the third has one algebra.
+pub fn any_algebras(random: &mut Random, jobs: usize) -> Vec<Algebra> {
+    let is_mixed = jobs > 1 && !random.one_in(3);
+    let mut algebras = vec![random.pick(&Algebra::ALL); jobs];
+    while is_mixed && algebras.windows(2).all(|pair| pair[0] == pair[1]) {
+        algebras.fill_with(|| random.pick(&Algebra::ALL));
+    }
+    algebras
+}
+
 /// Mostly few jobs, as a long list differs little from two short ones, and mostly of different sizes.
-pub fn small_list(random: &mut Random, algebra: Algebra) -> JobList {
+pub fn small_list(random: &mut Random) -> JobList {
     let order = random.pick(&[1, 2, 3, 3, 4, 4, 5, 6, 7, 8]);
     let most = random.pick(&[1, 2, 3, 4, 4, 6, MAX_JOBS]);
     let jobs = random.between(1, most);
@@ -41,11 +52,11 @@ pub fn small_list(random: &mut Random, algebra: Algebra) -> JobList {
         Sizes::SameHall,
         Sizes::SameHall,
     ]);
-    list(random, algebra, order, jobs, sizes, &Kind::ALL)
+    drawn_list(random, order, jobs, sizes, &Kind::ALL)
 }
 
 /// Every order and every number of jobs.
-pub fn medium_list(random: &mut Random, algebra: Algebra) -> JobList {
+pub fn medium_list(random: &mut Random) -> JobList {
     let order = random.between(1, MAX_ORDER.into());
     let jobs = random.between(1, MAX_JOBS);
     let sizes = random.pick(&Sizes::ALL);
@@ -53,75 +64,84 @@ pub fn medium_list(random: &mut Random, algebra: Algebra) -> JobList {
         0..=8_000 => &Kind::ALL[..],
         _ => &SHORT[..],
     };
-    list(random, algebra, order, jobs, sizes, kinds)
+    drawn_list(random, order, jobs, sizes, kinds)
 }
 
 /// The largest order and the largest number of jobs.
-pub fn largest_list(random: &mut Random, algebra: Algebra) -> JobList {
+pub fn largest_list(random: &mut Random) -> JobList {
     let sizes = random.pick(&Sizes::ALL);
-    list(random, algebra, MAX_ORDER.into(), MAX_JOBS, sizes, &SHORT)
+    drawn_list(random, MAX_ORDER.into(), MAX_JOBS, sizes, &SHORT)
 }
 
 /// The largest list with words of five digits everywhere but on the diagonal, so that its sheet is as long as a sheet gets: every way
 /// goes through one point of the job, as a text has no room for more links. (Not in reach, which has no such words.)
-pub fn longest_list(random: &mut Random, algebra: Algebra) -> JobList {
+pub fn longest_list(random: &mut Random) -> JobList {
     let points = usize::from(MAX_ORDER);
-    let mut list = JobList {
-        order: MAX_ORDER,
-        algebra,
-        sizes: vec![MAX_ORDER; MAX_JOBS],
-        weights: Vec::new(),
-    };
+    let mut list = JobList::new(MAX_ORDER);
     for _ in 0..MAX_JOBS {
+        let algebra = random.pick(&[Algebra::Distance, Algebra::Steepest]);
         let hub = random.between(0, points - 1);
-        for from in 0..points {
-            for to in 0..points {
-                let linked = from != to && (from == hub || to == hub);
-                list.weights.push(match linked {
-                    true => random.between(10_000, 32_767) as u16,
-                    false => algebra.none(),
-                });
-            }
+        let mut weights = vec![algebra.none(); points * points];
+        for other in (0..points).filter(|&other| other != hub) {
+            weights[hub * points + other] = random.between(10_000, 32_767) as u16;
+            weights[other * points + hub] = random.between(10_000, 32_767) as u16;
         }
+        list.push(Job {
+            algebra,
+            size: points,
+            weights: &weights,
+        });
     }
     list
 }
 
-pub fn list(
+/// In algebras that are drawn.
+pub fn drawn_list(
     random: &mut Random,
-    algebra: Algebra,
     order: usize,
     jobs: usize,
     sizes: Sizes,
     kinds: &[Kind],
 ) -> JobList {
-    let mut list = JobList {
-        order: order as u16,
-        algebra,
-        sizes: Vec::new(),
-        weights: Vec::new(),
-    };
-    let kind = random.pick(kinds);
-    let hall = table(random, algebra, order, kind);
-    let mut before = 0;
-    for _ in 0..jobs {
-        let size = next_size(random, order, sizes, before);
+    let algebras = any_algebras(random, jobs);
+    list(random, &algebras, order, sizes, kinds)
+}
+
+/// A job for each of the algebras.
+pub fn list(
+    random: &mut Random,
+    algebras: &[Algebra],
+    order: usize,
+    sizes: Sizes,
+    kinds: &[Kind],
+) -> JobList {
+    let mut list = JobList::new(order as u16);
+    let hall = Hall::any(random, algebras, order, kinds);
+    for &algebra in algebras {
+        let size = next_size(random, sizes, algebra, &list);
         let kind = random.pick(kinds);
-        list.sizes.push(size as u16);
-        list.weights.extend(match sizes {
-            Sizes::SameHall => first_points(&hall, order, size),
+        let weights = match sizes {
+            Sizes::SameHall => hall.job(algebra, size),
             _ => table(random, algebra, size, kind),
+        };
+        list.push(Job {
+            algebra,
+            size,
+            weights: &weights,
         });
-        before = size;
     }
     list
 }
 
-/// In an array of order 1 no two sizes differ.
-fn next_size(random: &mut Random, order: usize, sizes: Sizes, before: usize) -> usize {
+/// The size of the job that follows those in the list. In an array of order 1 no two sizes differ.
+fn next_size(random: &mut Random, sizes: Sizes, algebra: Algebra, list: &JobList) -> usize {
+    let order = usize::from(list.order);
+    let before = list.sizes.last().map_or(0, |&size| size.into());
+    let other_algebra = list.algebras.last().is_some_and(|&other| other != algebra);
     match sizes {
         Sizes::Any => random.between(1, order),
         Sizes::Full => order,
+        Sizes::SameHall if other_algebra && random.one_in(2) => before,
         Sizes::NeighboursDiffer | Sizes::SameHall => {
             let others: Vec<usize> = (1..=order).filter(|&size| size != before).collect();
             match others.is_empty() {
@@ -129,6 +149,38 @@ fn next_size(random: &mut Random, order: usize, sizes: Sizes, before: usize) -> 
                 false => random.pick(&others),
             }
         }
+    }
+}
+
+/// A table whose links any of the jobs may have.
+struct Hall {
+    algebra: Algebra,
+    points: usize,
+    links: Vec<u16>,
+}
+
+impl Hall {
+    /// In reach only where all jobs are: its words are too few for the others.
+    fn any(random: &mut Random, algebras: &[Algebra], points: usize, kinds: &[Kind]) -> Hall {
+        let mut others = algebras.iter().filter(|&&other| other != Algebra::Reach);
+        let algebra = others.next().copied().unwrap_or(Algebra::Reach);
+        let kind = random.pick(kinds);
+        Hall {
+            algebra,
+            points,
+            links: table(random, algebra, points, kind),
+        }
+    }
+
+    /// The links of the first points. Reach has 1 where the hall has not none.
+    fn job(&self, algebra: Algebra, size: usize) -> Vec<u16> {
+        let words = first_points(&self.links, self.points, size).into_iter();
+        words
+            .map(|word| match algebra {
+                Algebra::Reach => u16::from(word != self.algebra.none()),
+                Algebra::Distance | Algebra::Steepest => word,
+            })
+            .collect()
     }
 }
 
@@ -140,11 +192,9 @@ fn first_points(hall: &[u16], points: usize, size: usize) -> Vec<u16> {
 
 /// Whether some job in distance has a pair of points that is far, and one without a way.
 pub fn has_far_and_none(list: &JobList) -> bool {
-    list.algebra == Algebra::Distance
-        && list
-            .jobs()
-            .iter()
-            .any(|(size, words)| lengths::has_far_and_none(&lengths(*size, words)))
+    let jobs = list.jobs().into_iter();
+    jobs.filter(|job| job.algebra == Algebra::Distance)
+        .any(|job| lengths::has_far_and_none(&lengths(job.size, job.weights)))
 }
 
 /// Whether the list has the largest order and the largest number of jobs.
@@ -158,18 +208,44 @@ pub fn has_job_below_order(list: &JobList) -> bool {
 }
 
 /// Whether some job has another size than the one before it.
-pub fn neighbours_differ(list: &JobList) -> bool {
+pub fn sizes_differ(list: &JobList) -> bool {
     list.sizes.windows(2).any(|pair| pair[0] != pair[1])
+}
+
+/// Whether some job has another size than the one before it, and another algebra.
+pub fn neighbours_differ(list: &JobList) -> bool {
+    let jobs = list.jobs();
+    let mut pairs = jobs.windows(2);
+    pairs.any(|pair| pair[0].size != pair[1].size && pair[0].algebra != pair[1].algebra)
 }
 
 /// Whether some job and the one before it are one hall with more and with fewer points, at least 2. Tables of one word
 /// alone count as well.
 pub fn has_same_hall(list: &JobList) -> bool {
     list.jobs().windows(2).any(|pair| {
-        let (small, large) = match pair[0].0 < pair[1].0 {
+        let (small, large) = match pair[0].size < pair[1].size {
             true => (pair[0], pair[1]),
             false => (pair[1], pair[0]),
         };
-        small.0 >= 2 && small.0 < large.0 && first_points(large.1, large.0, small.0) == small.1
+        let part = first_points(large.weights, large.size, small.size);
+        small.size >= 2 && small.size < large.size && part == small.weights
     })
+}
+
+/// Whether some job in reach has the links of a neighbour in another algebra, at least 2 points. As above.
+pub fn has_hall_in_two_algebras(list: &JobList) -> bool {
+    list.jobs().windows(2).any(|pair| {
+        let (reach, other) = match pair[0].algebra {
+            Algebra::Reach => (pair[0], pair[1]),
+            _ => (pair[1], pair[0]),
+        };
+        let are_two = reach.algebra == Algebra::Reach && other.algebra != Algebra::Reach;
+        are_two && reach.size == other.size && reach.size >= 2 && have_same_links(reach, other)
+    })
+}
+
+fn have_same_links(reach: Job, other: Job) -> bool {
+    let links = reach.weights.iter().zip(other.weights).enumerate();
+    let mut links = links.filter(|(at, _)| at % (reach.size + 1) != 0);
+    links.all(|(_, (&link, &word))| (link == 1) == (word != other.algebra.none()))
 }

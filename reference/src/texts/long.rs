@@ -1,6 +1,5 @@
 //! Texts at the largest length: a right or a damaged text with bytes that a reader skips put into it.
 
-use crate::algebra::Algebra;
 use crate::job_text::MAX_TEXT;
 use crate::random::Random;
 use crate::texts::damage::{damaged_text, NUMBERS};
@@ -9,20 +8,19 @@ use crate::texts::writing::{text, Freedom};
 
 /// As long as the largest length or a byte less, or longer.
 pub fn long_text(random: &mut Random) -> Vec<u8> {
-    let algebra = random.pick(&Algebra::ALL);
     let number = random.pick(&NUMBERS);
     let short = match random.below(5) {
         0 => damaged_text(random, number),
         1 => {
-            let list = medium_list(random, algebra);
+            let list = medium_list(random);
             text(random, Freedom(0), &list)
         }
         2 => {
-            let list = largest_list(random, algebra);
+            let list = largest_list(random);
             text(random, Freedom(0), &list)
         }
         _ => {
-            let (freedom, list) = (Freedom::any(random), small_list(random, algebra));
+            let (freedom, list) = (Freedom::any(random), small_list(random));
             text(random, freedom, &list)
         }
     };

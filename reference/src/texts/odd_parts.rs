@@ -62,7 +62,7 @@ pub const ENDS: [&str; 16] = [
     "", ")", " )", "))", ") )", ")(", "(", ";", ") ;", ");", ") x", ")x", "\r", ")\r", ")\t", ")\0",
 ];
 
-/// In the place of an algebra's name; those of the algebras too.
+/// In the place of an algebra's name; those of the algebras too, and their numbers.
 pub const ALGEBRAS: [&str; 16] = [
     "reach",
     "distance",
@@ -85,9 +85,9 @@ pub const ALGEBRAS: [&str; 16] = [
 /// A form, right in itself, that may not be due.
 pub fn any_line(random: &mut Random) -> Line {
     match random.below(7) {
-        0 => Line::new(&["(list", "2", "distance"], ""),
-        1 => Line::new(&["(list", "3", "reach"], ""),
-        2 => Line::new(&["(job", "1"], ""),
+        0 => Line::new(&["(list", "2"], ""),
+        1 => Line::new(&["(job", "1", "reach"], ""),
+        2 => Line::new(&["(job", "2", "distance"], ""),
         3 => Line::new(&["(row", "1"], ")"),
         4 => Line::new(&["(row", "0", "1"], ")"),
         5 => Line::new(&["(row"], ")"),

@@ -49,14 +49,14 @@ pub fn text(random: &mut Random, freedom: Freedom, list: &JobList) -> Vec<u8> {
 
 pub fn draft(random: &mut Random, freedom: Freedom, list: &JobList) -> Draft {
     let order = numeral(random, freedom, list.order);
-    let mut lines = vec![Line::new(&["(list", &order, list.algebra.name()], "")];
-    for (size, weights) in list.jobs() {
-        let points = numeral(random, freedom, size as u16);
-        lines.push(Line::new(&["(job", &points], ""));
-        for words in weights.chunks_exact(size) {
+    let mut lines = vec![Line::new(&["(list", &order], "")];
+    for job in list.jobs() {
+        let points = numeral(random, freedom, job.size as u16);
+        lines.push(Line::new(&["(job", &points, job.algebra.name()], ""));
+        for words in job.weights.chunks_exact(job.size) {
             let mut row = Line::new(&["(row"], ")");
             for &weight in words {
-                let part = word(random, freedom, list.algebra, weight);
+                let part = word(random, freedom, job.algebra, weight);
                 row.parts.push(part.into_bytes());
             }
             lines.push(row);

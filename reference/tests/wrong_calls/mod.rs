@@ -13,6 +13,9 @@ use reference::ways::tables::Kind;
 
 const CASES: usize = 400;
 
+/// The ways with an array in them.
+pub const BY_ARRAY: [Closing; 3] = [Closing::OneArray, Closing::TwoArrays, Closing::EachWay];
+
 /// The first difference of some cases.
 pub fn found(calls: impl Calls, closing: Closing, algebra: Algebra) -> Option<String> {
     let mut comparison = Comparison::new(calls, Random::new(41));
@@ -22,8 +25,9 @@ pub fn found(calls: impl Calls, closing: Closing, algebra: Algebra) -> Option<St
             let (size, kind) = (random.between(1, 8), random.pick(&Kind::ALL));
             comparison.by_elimination(algebra, size, kind)
         }
-        Closing::Arrays => comparison.by_arrays(algebra),
-        Closing::Mixed => comparison.mixed(algebra),
+        Closing::OneArray => comparison.by_one_array(algebra),
+        Closing::TwoArrays => comparison.by_two_arrays(algebra),
+        Closing::EachWay => comparison.each_way(algebra),
     });
     cases.filter_map(Result::err).next()
 }
@@ -32,6 +36,8 @@ pub fn found(calls: impl Calls, closing: Closing, algebra: Algebra) -> Option<St
 #[derive(Clone, Copy)]
 pub struct Stub {
     pub close: fn(Algebra, usize, &[u16]) -> Vec<u16>,
+    /// The algebra, of those lent, that a job of an array is closed in.
+    pub algebra: fn(&[u16], usize) -> u16,
     pub late: isize,
     /// What an accepted run does besides, and what a refused one and a refused start do to their memory.
     pub accepted_run: fn(&mut RunCall),
@@ -43,6 +49,7 @@ pub struct Stub {
 
 pub const RIGHT: Stub = Stub {
     close: eliminate,
+    algebra: |algebras, q| algebras[q],
     late: 0,
     accepted_run: |_| (),
     refused_run: |_| (),
@@ -59,7 +66,9 @@ impl Stub {
         for (q, &start) in starts.iter().enumerate() {
             let size = usize::from(call.jobs.sizes[q]);
             let weights = &call.jobs.weights[start..start + size * size];
-            let words = (self.close)(header.algebra, size, weights);
+            let algebra = (self.algebra)(&call.jobs.algebras, q);
+            let algebra = Algebra::numbered(algebra).expect("it is tested");
+            let words = (self.close)(algebra, size, weights);
             for (at, word) in words.into_iter().enumerate() {
                 let tick = 4 * n * q + 4 * n - 1 + at / size + at % size;
                 if now.contains(&tick.saturating_add_signed(self.late)) {

@@ -4,27 +4,19 @@ use mathlib.Core.Path.{_≡_}
 use mathlib.Core.List.{List}
 use mathlib.Core.Bool.{cond}
 use lib.ListN.{set}
-use Rattle.semiring.specs.Named.{namedOf}
-use Rattle.semiring.specs.declared.Named.{Named}
-use Rattle.semiring.specs.declared.Named.the-variants.{Known, Unknown}
-use Rattle.systolic.specs.State.{orderOf, algebraOf, countOf, tickOf}
+use Rattle.systolic.specs.State.{orderOf, countOf, tickOf}
 use Rattle.systolic.specs.Run.{badState}
 use Rattle.array.specs.declared.head.Header.{Header}
 use Rattle.array.specs.declared.head.HeaderRead.{HeaderRead}
 use Rattle.array.specs.declared.head.HeaderRead.the-variants.{Fit, Unfit}
 
--- A state whose first four words are a header's.
+-- A state whose first four words are a header's, the second one 0.
 abbrev pub headed : Header → List ℕ → List ℕ
-headed h state = set (set (set (set state 0 (h .order)) 1 (h .algebra)) 2 (h .count)) 3 (h .tick)
+headed h state = set (set (set (set state 0 (h .order)) 1 0) 2 (h .count)) 3 (h .tick)
 
 abbrev pub headerOf : List ℕ → Header
-headerOf state = record { order = orderOf state; algebra = algebraOf state; count = countOf state; tick = tickOf state }
+headerOf state = record { order = orderOf state; count = countOf state; tick = tickOf state }
 
--- "state shorter than 4, its N, algebra or Q out of range, its length wrong, or tick above the total"
-abbrev pub headerIn : Named → List ℕ → HeaderRead
-headerIn Unknown state = Unfit
-headerIn (Known a) state = cond (badState state) Unfit (Fit (headerOf state) a)
-
--- What reading a state's header answers.
+-- What reading a state's header answers, by test 10.
 pub record Told (read : HeaderRead) (state : List ℕ) : Type 0 where
-  pub is : read ≡ headerIn (namedOf (algebraOf state)) state
+  pub is : read ≡ cond (badState state) Unfit (Fit (headerOf state))

@@ -14,7 +14,7 @@ use Rattle.semiring.specs.declared.Named.the-variants.{Known}
 use Rattle.closure.specs.Table.{entries}
 use Rattle.closure.specs.Elimination.{closure}
 use Rattle.closure.specs.Tests.{eliminationTests, resultAfter}
-use Rattle.job_list.specs.Jobs.{count, size, jobWeights, jobsOf}
+use Rattle.job_list.specs.Jobs.{count, size, algebra, jobWeights, jobsOf}
 use Rattle.systolic.specs.Start.{startTests}
 use Rattle.homomorphism.specs.Support.{support}
 
@@ -30,9 +30,9 @@ SameLinks a n reach w = (i j : ℕ) → i < n → j < n → i ≢ j → Agree a 
 -- A table of n points that the elimination's checks accept, or Start's as a job of its list.
 pub data Checked (a : Algebra) (n : ℕ) (w : List ℕ) : Type 0 where
   by-elimination : (r : List ℕ) → eliminationTests (Known a) n w r ≡ 0 → Checked a n w
-  by-start : (order : ℕ) (sizes weights state : List ℕ) → startTests (Known a) order sizes weights state ≡ 0
-      → (q : ℕ) → q < count (jobsOf a order sizes weights)
-      → n ≡ size (jobsOf a order sizes weights) q → w ≡ jobWeights (jobsOf a order sizes weights) q
+  by-start : (algebras : List ℕ) (order : ℕ) (sizes weights state : List ℕ) → startTests algebras order sizes weights state ≡ 0
+      → (q : ℕ) → q < count (jobsOf algebras order sizes weights) → a ≡ algebra (jobsOf algebras order sizes weights) q
+      → n ≡ size (jobsOf algebras order sizes weights) q → w ≡ jobWeights (jobsOf algebras order sizes weights) q
       → Checked a n w
 
 -- Over all algebras, so of distance and of steepest.

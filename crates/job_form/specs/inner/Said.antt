@@ -8,8 +8,8 @@ use Rattle.job_form.specs.Forms.{Form, list, job, row, close, skipped, u
 use Rattle.text.specs.inner.Scan.{partsFrom}
 
 abbrev pub formIn : List ℕ → Line → Form
-formIn line (said.List order algebra) = list order algebra
-formIn line (said.Job size) = job size
+formIn line (said.List order) = list order
+formIn line (said.Job size algebra) = job size algebra
 formIn line (said.Row from) = row (words (partsFrom from line))
 formIn line said.EmptyRow = row []
 formIn line said.Close = close

@@ -9,6 +9,7 @@ length-tests-spec =
     tie.close
     (tie.spec
     (λ c. search (tests, numbers, or-first, c .if1 .taken))
-    (λ c. search (tests, numbers, or-second, c .if2 .taken) depth 9)
+    (λ c. search (tests, numbers, or-first, or-second, c .if2 .taken) depth 9)
+    (λ c. search (tests, numbers, or-second, c .if3 .taken) depth 9)
     (λ c. search (tests, numbers, or-neither) depth 9)
     (λ c. search (tests, numbers, or-neither) depth 9))

@@ -1,4 +1,4 @@
--- `job_text::read` meets its contract: a test before any line clears both buffers, and else the lines are read into cleared ones.
+-- `job_text::read` meets its contract: a test before any line clears the buffers, and else the lines are read into cleared ones.
 use borrow.Author.Needs.{needs}
 use Rattle.job_text.proofs.Readings.{cleared, text-fits, refused-first, read-lines}
 use Rattle.job_text.proofs.read.Statement.{statement}
@@ -11,11 +11,12 @@ read-spec =
     (λ c κs. search needs)
     (λ c κs. search needs)
     (λ c κs. search needs)
-    (λ c κs. search needs)
+    (λ c. search needs)
     (λ c. search needs)
     (λ c. search needs)
     (λ c. search (refused-first, c .before .if1 .taken) depth 9)
-    (λ c κs. (search text-fits, (search cleared, search cleared)))
+    (λ c κs. (search text-fits, search cleared))
+    (λ c. search needs)
     (λ c. search needs)
     (λ c. search needs)
     (λ c. search read-lines depth 9))

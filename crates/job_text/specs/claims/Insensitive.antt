@@ -29,10 +29,10 @@ pub data Loosened : List (List ℕ) → List (List ℕ) → Type 0 where
 -- A reading but for the line of a refusal.
 abbrev pub unnumbered : Reading → Reading
 unnumbered (refused r) = refused (refusal (r .number) 0)
-unnumbered (accepted order algebra sizes weights) = accepted order algebra sizes weights
+unnumbered (accepted order algebras sizes weights) = accepted order algebras sizes weights
 
 -- Both texts within the limit, such a text reads to the same words or to the same refusal on some line.
 abbrev pub Insensitive : Type 0
 Insensitive =
-    (sizes weights : ℕ) (text loosened : List ℕ) → length text ≤ 65536 → length loosened ≤ 65536 → Loosened (lines text) (lines loosened)
-    → unnumbered (readingOf sizes weights loosened) ≡ unnumbered (readingOf sizes weights text)
+    (algebras sizes weights : ℕ) (text loosened : List ℕ) → length text ≤ 65536 → length loosened ≤ 65536 → Loosened (lines text) (lines loosened)
+    → unnumbered (readingOf algebras sizes weights loosened) ≡ unnumbered (readingOf algebras sizes weights text)

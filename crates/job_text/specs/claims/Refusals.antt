@@ -17,17 +17,18 @@ use Rattle.job_text.specs.declared.state.Due.the-variants as due
 use Rattle.job_text.specs.Steps.{Progress, start, tests, after}
 use Rattle.job_text.specs.Reading.{Reading, refused, accepted, refusal, lengthTests, readingOf}
 
--- "18 sizes not 16 or weights not 16,384 words; 13 over 65,536 bytes", from the lengths of both buffers.
-unfoldable pub lengthConditions : ℕ → ℕ → List ℕ → Conditions
-lengthConditions sizes weights text =
-    test ((sizes ≡ 16 → ⊥) ⊎ (weights ≡ 16384 → ⊥)) 18
+-- "18 sizes not 16 or weights not 16,384 words; 13 over 65,536 bytes", from the lengths of the buffers. K8: "16 algebras ..; another length
+-- of theirs is 18".
+unfoldable pub lengthConditions : ℕ → ℕ → ℕ → List ℕ → Conditions
+lengthConditions algebras sizes weights text =
+    test ((algebras ≡ 16 → ⊥) ⊎ ((sizes ≡ 16 → ⊥) ⊎ (weights ≡ 16384 → ⊥))) 18
     (test (65536 < length text) 13
     otherwise)
 
 abbrev pub Before-lines : Type 0
 Before-lines =
-    (sizes weights : ℕ) (text : List ℕ)
-    → Exactly (lengthConditions sizes weights text) (first 0 (lengthTests sizes weights (length text)))
+    (algebras sizes weights : ℕ) (text : List ℕ)
+    → Exactly (lengthConditions algebras sizes weights text) (first 0 (lengthTests algebras sizes weights (length text)))
 
 -- "a numeral is a run of digits", read or over
 pub data Numeral : Token → Type 0 where
@@ -56,11 +57,11 @@ pub data Apart : Form → Type 0 where
 pub data AfterEnd : Due → Type 0 where
   after-end : AfterEnd due.Nothing
 
--- "Forms in order: `(list N A` with A a name from the table; per job `(job n`, then n lines `(row w ..)` .., then `)`; at the end `)`":
--- each where it is due. "14 not the form due".
+-- "Forms in order: .. per job .., then n lines `(row w ..)` .., then `)`; at the end `)`", K8: "`(list N` and `(job n A`", "with A a name from
+-- the table": each where it is due. "14 not the form due".
 pub data FormDue : Due → Form → Type 0 where
-  list-begins : {n : Token} {a : Algebra} → Numeral n → FormDue due.List (list n (Name a))
-  job-begins : {n : Token} → Numeral n → FormDue due.Job (job n)
+  list-begins : {n : Token} → Numeral n → FormDue due.List (list n)
+  job-begins : {n : Token} {a : Algebra} → Numeral n → FormDue due.Job (job n (Name a))
   row-stands : {ts : List Token} → EachPart RowPart ts → FormDue due.Row (row ts)
   job-ends : FormDue due.Close close
   list-ends : FormDue due.Job close
@@ -71,8 +72,8 @@ pub data OverIn : Algebra → Token → Type 0 where
   dash-in-reach : OverIn Reach Dash
 
 pub data HasOver (a : Algebra) : Form → Type 0 where
-  over-order : {t : Token} → HasOver a (list Over t)
-  over-size : HasOver a (job Over)
+  over-order : HasOver a (list Over)
+  over-size : {t : Token} → HasOver a (job Over t)
   over-word : {ts : List Token} → SomePart (OverIn a) ts → HasOver a (row ts)
 
 -- "16 row length"
@@ -81,11 +82,11 @@ pub data RowLength (size : ℕ) : Form → Type 0 where
 
 -- "6 order"
 pub data OrderOutside : Form → Type 0 where
-  order-outside : {n : ℕ} {t : Token} → Outside 1 32 n → OrderOutside (list (Number n) t)
+  order-outside : {n : ℕ} → Outside 1 32 n → OrderOutside (list (Number n))
 
 -- "8 a job's size outside 1 to N"
 pub data SizeOutside (order : ℕ) : Form → Type 0 where
-  size-outside : {n : ℕ} → Outside 1 order n → SizeOutside order (job (Number n))
+  size-outside : {n : ℕ} {t : Token} → Outside 1 order n → SizeOutside order (job (Number n) t)
 
 -- "5 a reach word above 1"
 pub data AboveOne : Algebra → Token → Type 0 where
@@ -97,9 +98,9 @@ pub data HasAbove (a : Algebra) : Form → Type 0 where
 -- "7 a list closed empty or a 17th job", after so many jobs: where a job is due, `)` closes the list.
 pub data JobCount (jobs : ℕ) : Due → Form → Type 0 where
   closed-empty : jobs ≡ 0 → JobCount jobs due.Job close
-  job-17 : {d : Due} {n : Token} → 16 ≤ jobs → JobCount jobs d (job n)
+  job-17 : {d : Due} {n a : Token} → 16 ≤ jobs → JobCount jobs d (job n a)
 
--- One line, by its form and what has been read before it.
+-- One line, by its form and what has been read before it. 15 and 5 go by the algebra of the job that the line is in.
 unfoldable pub lineConditions : Progress → Form → Conditions
 lineConditions p f =
     test (Apart f) 0
@@ -126,17 +127,19 @@ pub data ByLines : ℕ → Progress → List (List ℕ) → Reading → Type 0 w
   line-passed : {line : ℕ} {p : Progress} {l : List ℕ} {ls : List (List ℕ)} {r : Reading} → Returns (lineConditions p (formOf (parts l))) 0
       → ByLines (suc line) (after p (formOf (parts l))) ls r → ByLines line p (l ∷ ls) r
   ends-early : {line : ℕ} {p : Progress} → (AfterEnd (p .due) → ⊥) → ByLines line p [] (refused (refusal 17 line))
-  ends : {line : ℕ} {p : Progress} → AfterEnd (p .due) → ByLines line p [] (accepted (p .order) (p .algebra) (p .sizes) (p .weights))
+  ends : {line : ℕ} {p : Progress} → AfterEnd (p .due) → ByLines line p [] (accepted (p .order) (p .algebras) (p .sizes) (p .weights))
 
 -- The whole row: what a text gives by its conditions. "0 for 18 and 13".
-pub data ByTable (sizes weights : ℕ) (text : List ℕ) : Reading → Type 0 where
-  before-lines : {k : ℕ} → Returns (lengthConditions sizes weights text) (suc k) → ByTable sizes weights text (refused (refusal (suc k) 0))
-  by-lines : {r : Reading} → Returns (lengthConditions sizes weights text) 0 → ByLines 0 start (lines text) r → ByTable sizes weights text r
+pub data ByTable (algebras sizes weights : ℕ) (text : List ℕ) : Reading → Type 0 where
+  before-lines : {k : ℕ} → Returns (lengthConditions algebras sizes weights text) (suc k)
+      → ByTable algebras sizes weights text (refused (refusal (suc k) 0))
+  by-lines : {r : Reading} → Returns (lengthConditions algebras sizes weights text) 0 → ByLines 0 start (lines text) r
+      → ByTable algebras sizes weights text r
 
 -- Read both ways: a text is refused with a number on a line, or accepted, exactly where its conditions say so.
-pub record ReadExactly (sizes weights : ℕ) (text : List ℕ) : Type 0 where
-  pub given : ByTable sizes weights text (readingOf sizes weights text)
-  pub only : (r : Reading) → ByTable sizes weights text r → readingOf sizes weights text ≡ r
+pub record ReadExactly (algebras sizes weights : ℕ) (text : List ℕ) : Type 0 where
+  pub given : ByTable algebras sizes weights text (readingOf algebras sizes weights text)
+  pub only : (r : Reading) → ByTable algebras sizes weights text r → readingOf algebras sizes weights text ≡ r
 
 abbrev pub Text-refusals : Type 0
-Text-refusals = (sizes weights : ℕ) (text : List ℕ) → ReadExactly sizes weights text
+Text-refusals = (algebras sizes weights : ℕ) (text : List ℕ) → ReadExactly algebras sizes weights text

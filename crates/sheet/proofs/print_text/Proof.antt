@@ -13,21 +13,19 @@ abbrev Known : Type 0
 Known = tie.After-answer
 
 abbrev at-read : Known → tie.After-read
-at-read k = k .before .before .before .before .before .before
+at-read k = k .before .before .before .before .before .before .before .before
 
 abbrev begun : Known → tie.Start
-begun k = at-read k .before .before .before .before .before .before .before
+begun k = at-read k .before .before .before .before .before .before .before .before .before
 
 abbrev text : Known → List ℕ
 text k = now (begun k .args .text)
 
 -- the list that the buffers begin with
 listed : (k : Known)
-    → ReadList (text k) (k .answer .given .0 .0) (k .answer .given .0 .1 .0) (k .answer .given .0 .1 .1 .0) (at-read k .read .last .1 .0)
-    (at-read k .read .last .1 .1 .0)
-listed k =
-    let told = at-read k .read .ensures in
-    read-list (text k) (begun k .pre) (k .answer .given .1) (told .outcome) (told .sizes-left) (told .weights-left)
+    → ReadList (text k) (k .answer .given .0 .0) (k .answer .given .0 .1 .0) (at-read k .read .last .1 .0) (at-read k .read .last .1 .1 .0)
+    (at-read k .read .last .1 .1 .1 .0)
+listed k = read-list (text k) (begun k .pre) (k .answer .given .1) (at-read k .read .ensures)
 
 list-ready : tie.Need-print-list-requires
 list-ready c κs =
@@ -48,7 +46,7 @@ turned-back c =
     let r : tie.After-read = search needs in
     let k : tie.After-answer2 = search needs in
     let p : tie.After-put-refused = search needs in
-    refusal-printed (now (asked .args .text)) (asked .pre) (k .answer2 .given .1) (r .read .ensures .outcome) (p .put-refused .ensures)
+    refusal-printed (now (asked .args .text)) (asked .pre) (k .answer2 .given .1) (r .read .ensures) (p .put-refused .ensures)
 
 pub print-text-spec : {M : Type 1} → statement M
 print-text-spec =
@@ -62,6 +60,8 @@ print-text-spec =
     (λ c. let k : Known = search needs in sym (listed k .count))
     (λ c κs. let k : Known = search needs in sizes-ready (listed k))
     -- the list
+    (λ c. let k : Known = search needs in listed k .few-algebras)
+    (λ c. let k : Known = search needs in sym (listed k .count-algebras))
     (λ c. search needs)
     (λ c. let k : Known = search needs in listed k .few)
     (λ c. let k : Known = search needs in sym (listed k .count))
@@ -75,7 +75,9 @@ print-text-spec =
     (λ c. search needs)
     (λ c. search needs)
     (λ c. search needs)
+    (λ c. search needs)
     sheet-printed
+    (λ c. search needs)
     (λ c. search needs)
     (λ c. search needs)
     (λ c. search needs)

@@ -1,8 +1,8 @@
--- Document 01, "Bench cards": B1 to B9 in one statement, with K4's B7, and cards more: the elimination's last pass, far and none, a
--- refusal's line.
+-- Document 01, "Bench cards": B1 to B9 in one statement, with K4's B7 and K8's texts, and cards more: the elimination's last pass, far and none, a
+-- list of three algebras, a refusal's line.
 use Prim.Native.Nat.{ℕ}
 use mathlib.Core.Path.{_≡_}
-use mathlib.Core.List.{List, [], _∷_}
+use mathlib.Core.List.{List, [], _∷_, _++_}
 use lib.ListN.{replicate}
 use Rattle.text.specs.Ascii.{ascii}
 use Rattle.semiring.specs.declared.Algebra.the-variants.{Reach, Distance, Steepest}
@@ -38,8 +38,8 @@ last3 = 0 ∷ 9 ∷ 1 ∷ none ∷ 0 ∷ none ∷ none ∷ 2 ∷ 0 ∷ []
 -- One job of one point with the word 7 in an array of order 1, run once with an allowance on a result that holds 9.
 abbrev pub onePoint : ℕ → Runs
 onePoint allowance =
-    runs (1 ∷ []) (7 ∷ []) (record { allowance = allowance; scratch = 0 ∷ 0 ∷ [] } ∷ [])
-    (stateAfterStart 1 1 (1 ∷ []) (7 ∷ []) (replicate (stateLength 1) 0)) (9 ∷ [])
+    runs (1 ∷ []) (1 ∷ []) (7 ∷ []) (record { allowance = allowance; scratch = 0 ∷ 0 ∷ [] } ∷ [])
+    (stateAfterStart (1 ∷ []) 1 (1 ∷ []) (7 ∷ []) (replicate (stateLength 1) 0)) (9 ∷ [])
 
 pub record BenchCards : Type 0 where
   pub B1 : eliminated Distance 1 (7 ∷ []) ≡ 0 ∷ []
@@ -61,7 +61,17 @@ pub record BenchCards : Type 0 where
   pub B8-ticks : onePoint 65535 .made ≡ 4
   -- "the listing above", with K1's sizes
   pub B9 :
-      sheetOf (ascii "(list 2 distance\n(job 2\n(row 0 5)\n(row - 0)\n)\n)\n")
+      sheetOf (ascii "(list 2\n(job 2 distance\n(row 0 5)\n(row - 0)\n)\n)\n")
       ≡ ascii "(jobs 1 ticks 10)\n(out 0 0 0 2 7 0)\n(out 0 0 1 2 8 5)\n(out 0 1 0 2 8 -)\n(out 0 1 1 2 9 0)\n"
+  -- K8: "A hall now sends its reach and distance jobs in one list", here with a stage in steepest between them. No way back is 0 in the reach
+  -- job and `-` in the distance job.
+  pub mixed :
+      sheetOf
+      (ascii "(list 2\n(job 2 reach\n(row 0 1)\n(row 0 0)\n)\n" ++ ascii "(job 1 steepest\n(row 7)\n)\n"
+      ++ ascii "(job 2 distance\n(row 0 5)\n(row - 0)\n)\n)\n")
+      ≡ ascii "(jobs 3 ticks 26)\n"
+      ++ ascii "(out 0 0 0 2 7 1)\n(out 0 0 1 2 8 1)\n(out 0 1 0 2 8 0)\n(out 0 1 1 2 9 1)\n"
+      ++ ascii "(out 1 0 0 1 15 0)\n"
+      ++ ascii "(out 2 0 0 2 23 0)\n(out 2 0 1 2 24 5)\n(out 2 1 0 2 24 -)\n(out 2 1 1 2 25 0)\n"
   -- "A refusal prints only `(refused 14 3)`: number, line."
-  pub refusal : sheetOf (ascii "(list 2 distance\n(job 2\n(raw 0 5)\n") ≡ ascii "(refused 14 3)\n"
+  pub refusal : sheetOf (ascii "(list 2\n(job 2 distance\n(raw 0 5)\n") ≡ ascii "(refused 14 3)\n"

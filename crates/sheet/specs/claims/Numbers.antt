@@ -2,7 +2,6 @@
 use Prim.Native.Nat.{ℕ, _+_, _-_, _*_, _<_}
 use mathlib.Core.Path.{_≡_}
 use mathlib.Core.List.{List}
-use Rattle.semiring.specs.declared.Algebra.{Algebra}
 use Rattle.job_list.specs.Jobs.{Jobs, count, size, jobsOf, Entry}
 use Rattle.systolic.specs.Tick.{leaves}
 use Rattle.text.specs.Numeral.{shown}
@@ -16,7 +15,7 @@ ShownWhole n = NumeralOf n (shown n)
 
 -- A refusal's number and line.
 abbrev pub Refusal-numbers : Type 0
-Refusal-numbers = (text : List ℕ) (r : Refusal) → readingOf 16 16384 text ≡ refused r → ShownWhole (r .number) × ShownWhole (r .line)
+Refusal-numbers = (text : List ℕ) (r : Refusal) → readingOf 16 16 16384 text ≡ refused r → ShownWhole (r .number) × ShownWhole (r .line)
 
 -- A list's jobs and ticks, and the numbers of each entry's line.
 pub record ListNumbers (J : Jobs) : Type 0 where
@@ -29,5 +28,5 @@ pub record ListNumbers (J : Jobs) : Type 0 where
 
 abbrev pub List-numbers : Type 0
 List-numbers =
-    (text : List ℕ) (order : ℕ) (a : Algebra) (sizes weights : List ℕ)
-    → readingOf 16 16384 text ≡ accepted order a sizes weights → ListNumbers (jobsOf a order sizes weights)
+    (text : List ℕ) (order : ℕ) (algebras sizes weights : List ℕ)
+    → readingOf 16 16 16384 text ≡ accepted order algebras sizes weights → ListNumbers (jobsOf algebras order sizes weights)

@@ -26,12 +26,12 @@ pub record LeavingFits (l : Leaving) (part : List ℕ) : Type 0 where
   pub part-fits : length part ≡ l .size * l .size
 
 -- Jobs of an array and their results.
-pub record Printable (algebra : Algebra) (order : ℕ) (sizes results : List ℕ) : Type 0 where
-  pub list : ListFits (jobsOf algebra order sizes [])
+pub record Printable (algebras : List ℕ) (order : ℕ) (sizes results : List ℕ) : Type 0 where
+  pub list : ListFits (jobsOf algebras order sizes [])
   pub results-fit : length results ≡ wordsOf sizes
 
 -- The lines of tick t. They do not read the weights.
-unfoldable pub tickLines : Algebra → ℕ → List ℕ → List ℕ → ℕ → List ℕ
-tickLines a order sizes results t =
-    let J : Jobs = jobsOf a order sizes [] in
+unfoldable pub tickLines : List ℕ → ℕ → List ℕ → List ℕ → ℕ → List ℕ
+tickLines algebras order sizes results t =
+    let J : Jobs = jobsOf algebras order sizes [] in
     joined order (rowLines J (λ q i k. getD results (place J q i k) 0) t)

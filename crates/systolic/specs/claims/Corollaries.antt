@@ -3,11 +3,8 @@ use Prim.Native.Nat.{ℕ, _<_}
 use mathlib.Core.Path.{_≡_}
 use mathlib.Core.List.{List}
 use lib.ListN.{length, getD}
-use Rattle.semiring.specs.declared.Algebra.{Algebra}
-use Rattle.semiring.specs.declared.Named.the-variants.{Known}
-use Rattle.semiring.specs.Named.{namedOf}
 use Rattle.closure.specs.claims.Demand.{Best}
-use Rattle.job_list.specs.Jobs.{Jobs, count, size, wordsOf, jobWeights, place, jobsOf}
+use Rattle.job_list.specs.Jobs.{Jobs, count, size, algebra, wordsOf, jobWeights, place, jobsOf}
 use Rattle.systolic.specs.Start.{startTests, stateAfterStart}
 use Rattle.systolic.specs.claims.Demand.{Call, Runs, runs}
 use Rattle.systolic.specs.Tick.{leaves}
@@ -24,36 +21,34 @@ abbrev pub wordAt : Jobs → ℕ → ℕ → ℕ → Runs → ℕ
 wordAt J q i k after = getD (after .results) (place J q i k) 0
 
 -- A list of runs from what start left in a state that was lent to it.
-abbrev pub startedRuns : ℕ → ℕ → List ℕ → List ℕ → List ℕ → List Call → List ℕ → Runs
-startedRuns algebra order sizes weights state calls results =
-    runs sizes weights calls (stateAfterStart algebra order sizes weights state) results
+abbrev pub startedRuns : List ℕ → ℕ → List ℕ → List ℕ → List ℕ → List Call → List ℕ → Runs
+startedRuns algebras order sizes weights state calls results =
+    runs algebras sizes weights calls (stateAfterStart algebras order sizes weights state) results
 
 -- Demands 2 and 3 joined: an entry whose tick is past is attained by a way of its job without a repeated point, and no way of its job
 -- betters it.
 abbrev pub Demand3-best : Type 0
 Demand3-best =
-    (algebra order : ℕ) (sizes weights state : List ℕ)
-    → startTests (namedOf algebra) order sizes weights state ≡ 0
-    → (a : Algebra) × (namedOf algebra ≡ Known a)
-    × ((calls : List Call) (results : List ℕ) → length results ≡ wordsOf sizes
-    → (let J = jobsOf a order sizes weights in
-    let after = startedRuns algebra order sizes weights state calls results in
-    (q i k : ℕ) → Past J q i k after → Best a (size J q) (jobWeights J q) i k (wordAt J q i k after)))
+    (algebras : List ℕ) (order : ℕ) (sizes weights state : List ℕ)
+    → startTests algebras order sizes weights state ≡ 0
+    → (calls : List Call) (results : List ℕ) → length results ≡ wordsOf sizes
+    → (let J = jobsOf algebras order sizes weights in
+    let after = startedRuns algebras order sizes weights state calls results in
+    (q i k : ℕ) → Past J q i k after → Best (algebra J q) (size J q) (jobWeights J q) i k (wordAt J q i k after))
 
 -- "One job's results depend on N, the algebra and its own words; the other jobs only set its place.": a job of two lists, in which
--- it has the same size and words.
+-- it has the same algebra, size and words.
 abbrev pub Own-words-only : Type 0
 Own-words-only =
-    (algebra order : ℕ) (sizes weights state sizes′ weights′ state′ : List ℕ)
-    → startTests (namedOf algebra) order sizes weights state ≡ 0
-    → startTests (namedOf algebra) order sizes′ weights′ state′ ≡ 0
-    → (a : Algebra) × (namedOf algebra ≡ Known a)
-    × ((calls calls′ : List Call) (results results′ : List ℕ)
+    (order : ℕ) (algebras sizes weights state algebras′ sizes′ weights′ state′ : List ℕ)
+    → startTests algebras order sizes weights state ≡ 0
+    → startTests algebras′ order sizes′ weights′ state′ ≡ 0
+    → (calls calls′ : List Call) (results results′ : List ℕ)
     → length results ≡ wordsOf sizes → length results′ ≡ wordsOf sizes′
-    → (let J = jobsOf a order sizes weights in
-    let J′ = jobsOf a order sizes′ weights′ in
-    let after = startedRuns algebra order sizes weights state calls results in
-    let after′ = startedRuns algebra order sizes′ weights′ state′ calls′ results′ in
-    (q q′ : ℕ) → size J q ≡ size J′ q′ → jobWeights J q ≡ jobWeights J′ q′
+    → (let J = jobsOf algebras order sizes weights in
+    let J′ = jobsOf algebras′ order sizes′ weights′ in
+    let after = startedRuns algebras order sizes weights state calls results in
+    let after′ = startedRuns algebras′ order sizes′ weights′ state′ calls′ results′ in
+    (q q′ : ℕ) → algebra J q ≡ algebra J′ q′ → size J q ≡ size J′ q′ → jobWeights J q ≡ jobWeights J′ q′
     → (i k : ℕ) → Past J q i k after → Past J′ q′ i k after′
-    → wordAt J q i k after ≡ wordAt J′ q′ i k after′))
+    → wordAt J q i k after ≡ wordAt J′ q′ i k after′)

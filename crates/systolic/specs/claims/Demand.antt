@@ -5,14 +5,13 @@ use mathlib.Core.List.{List, [], _∷_, map}
 use mathlib.Core.Bool.{cond, not}
 use lib.ListN.{length, getD, replicate}
 use lib.Dec.{eqb, ltb}
-use Rattle.semiring.specs.declared.Algebra.{Algebra}
 use Rattle.semiring.specs.declared.Named.the-variants.{Known}
 use Rattle.semiring.specs.Named.{namedOf}
 use Rattle.closure.specs.Elimination.{closure}
 use Rattle.refusals.specs.Tests.{first}
-use Rattle.job_list.specs.Jobs.{Jobs, jobsOf, count, size, wordsOf, jobWeights, place}
+use Rattle.job_list.specs.Jobs.{Jobs, jobsOf, count, size, algebra, wordsOf, jobWeights, place}
 use Rattle.systolic.specs.Tick.{leaves, ticks}
-use Rattle.systolic.specs.State.{stateWords, orderOf, algebraOf, countOf, tickOf, planesOf, scratchLength}
+use Rattle.systolic.specs.State.{stateWords, orderOf, countOf, tickOf, planesOf, scratchLength}
 use Rattle.systolic.specs.Start.{startTests, stateAfterStart}
 use Rattle.systolic.specs.Run.{ran}
 
@@ -35,12 +34,12 @@ pub record Runs : Type 0 where
   pub scratches : List (List ℕ)
 
 -- "Every run in it is lent the very jobs that Start accepted, and state and results as the run before left them"
-unfoldable pub runs : List ℕ → List ℕ → List Call → List ℕ → List ℕ → Runs
-runs sizes weights [] state results =
+unfoldable pub runs : List ℕ → List ℕ → List ℕ → List Call → List ℕ → List ℕ → Runs
+runs algebras sizes weights [] state results =
     record { numbers = []; allowed = 0; made = 0; state = state; results = results; scratches = [] }
-runs sizes weights (call ∷ calls) state results =
-    let one = ran state sizes weights (call .allowance) (call .scratch) results in
-    let rest = runs sizes weights calls (one .state) (one .results) in
+runs algebras sizes weights (call ∷ calls) state results =
+    let one = ran state algebras sizes weights (call .allowance) (call .scratch) results in
+    let rest = runs algebras sizes weights calls (one .state) (one .results) in
     record {
       numbers = one .number ∷ rest .numbers;
       allowed = cond (eqb (one .number) 0) (call .allowance) 0 + rest .allowed;
@@ -71,18 +70,18 @@ pub record Claim (J : Jobs) (begun : List ℕ) (calls : List Call) (results : Li
   -- "the planes are that many ticks of document 01's cell rule from what start left", and the other words are start's
   pub state :
       after .state
-      ≡ stateWords (orderOf begun) (algebraOf begun) (countOf begun) (after .made)
+      ≡ stateWords (orderOf begun) (countOf begun) (after .made)
       (ticks J 0 (after .made) (record { planes = planesOf begun; results = results }) .planes)
   -- "Scratch .. is left zero by every accepted run", and a refused one leaves it as it was
   pub scratches : after .scratches ≡ map (λ (call : Call). scratchDue (J .order) (J .sizes) (call .scratch) results) calls
   -- "entry (i,k) of job q is that job's elimination word if more than 4Nq + 4N - 1 + i + k ticks are made, else the word it
-  -- held before the list"
+  -- held before the list"; request K8: "each job closed in its own algebra"
   pub entry :
       length results ≡ wordsOf (J .sizes)
       → (q i k : ℕ) → q < count J → i < size J q → k < size J q
       → getD (after .results) (place J q i k) 0
       ≡ cond (ltb (leaves J q i k) (after .made))
-      (closure (J .algebra q) (size J q) (jobWeights J q) i k)
+      (closure (algebra J q) (size J q) (jobWeights J q) i k)
       (getD results (place J q i k) 0)
   -- no other word: each of the results' words is an entry of a job, and there are no more words than before
   pub length-kept : length (after .results) ≡ length results
@@ -96,11 +95,17 @@ pub record Claim (J : Jobs) (begun : List ℕ) (calls : List Call) (results : Li
       → (after .made ≡ 0) × (after .state ≡ begun) × (after .results ≡ results)
       × (after .scratches ≡ map (λ (call : Call). call .scratch) calls)
 
+-- Request K8: "goes with each job". The number lent for each job names its algebra.
+abbrev pub Named-jobs : Jobs → Type 0
+Named-jobs J = (q : ℕ) → q < count J → namedOf (getD (J .algebras) q 0) ≡ Known (algebra J q)
+
+-- Over all algebras together: a list may have jobs of each.
 abbrev pub Demand3 : Type 0
 Demand3 =
-    (algebra order : ℕ) (sizes weights state : List ℕ)
-    → startTests (namedOf algebra) order sizes weights state ≡ 0
-    → (a : Algebra) × (namedOf algebra ≡ Known a)
+    (algebras : List ℕ) (order : ℕ) (sizes weights state : List ℕ)
+    → startTests algebras order sizes weights state ≡ 0
+    → (let J = jobsOf algebras order sizes weights in
+    Named-jobs J
     × ((calls : List Call) (results : List ℕ)
-    → (let begun = stateAfterStart algebra order sizes weights state in
-    Claim (jobsOf a order sizes weights) begun calls results (runs sizes weights calls begun results)))
+    → (let begun = stateAfterStart algebras order sizes weights state in
+    Claim J begun calls results (runs algebras sizes weights calls begun results))))

@@ -3,8 +3,6 @@ use Prim.Native.Nat.{ℕ}
 use mathlib.Core.Path.{_≡_}
 use mathlib.Core.List.{List}
 use lib.ListN.{length, replicate}
-use Rattle.semiring.specs.Named.{namedOf}
-use Rattle.systolic.specs.State.{algebraOf}
 use Rattle.systolic.specs.Run.{runTests, Ran, ran}
 
 -- What an accepted run leaves that makes no tick.
@@ -16,7 +14,7 @@ pub record Untouched (state scratch results : List ℕ) (after : Ran) : Type 0 w
 
 abbrev pub Zero-ticks : Type 0
 Zero-ticks =
-    (state sizes weights : List ℕ) (allowance : ℕ) (scratch results : List ℕ)
-    → runTests (namedOf (algebraOf state)) state sizes weights scratch results ≡ 0
-    → (let after = ran state sizes weights allowance scratch results in
+    (state algebras sizes weights : List ℕ) (allowance : ℕ) (scratch results : List ℕ)
+    → runTests state algebras sizes weights scratch results ≡ 0
+    → (let after = ran state algebras sizes weights allowance scratch results in
     after .made ≡ 0 → Untouched state scratch results after)

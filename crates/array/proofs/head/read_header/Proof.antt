@@ -1,6 +1,6 @@
 -- `read_header` meets its contract: each return is found from the list of test 10 and what the branches told.
 use borrow.Author.Needs.{needs}
-use Rattle.array.proofs.HeaderNeeds.{header-tests, unfit, unknown, fit}
+use Rattle.array.proofs.HeaderNeeds.{header-tests, unfit, fit}
 use Rattle.array.proofs.Rooms.{rooms}
 use Rattle.array.proofs.head.read_header.Statement.{statement}
 use Rattle.array.proofs.head.read_header.Tie as tie
@@ -15,16 +15,12 @@ read-header-spec =
     (λ c. search needs)
     (λ c. search needs)
     (λ c. search needs)
-    (λ c. search needs)
-    -- the algebra
-    (λ c κs. search needs)
-    (λ c κs. search needs)
-    (λ c. search needs)
-    (λ c. search needs)
-    (λ c. search unknown)
     -- the order
     (λ c. search (unfit, header-tests) depth 12)
     (λ c. search (unfit, header-tests) depth 12)
+    -- the second word
+    (λ c. search needs)
+    (λ c. search (unfit, header-tests, c .if4 .taken) depth 12)
     -- the count
     (λ c. search (unfit, header-tests) depth 12)
     (λ c. search (unfit, header-tests) depth 12)
@@ -33,7 +29,7 @@ read-header-spec =
     (λ c. search rooms)
     (λ c. search rooms)
     (λ c. search rooms)
-    (λ c. search (unfit, header-tests, c .if6 .taken) depth 12)
+    (λ c. search (unfit, header-tests, c .if7 .taken) depth 12)
     -- the tick
     (λ c κs. search needs)
     (λ c. search (unfit, header-tests) depth 12)

@@ -29,7 +29,7 @@ returns c =
     let start : tie.Start = search in
     let head = start .pre .turn in
     let behind = pass-before (start .args .n) (start .args .head .pass) (omega arith) in
-    settled-all (start .args .algebra) (start .args .count) (omega arith)
+    settled-all (start .args .here) (start .args .behind) (start .args .count) (start .args .head) (omega arith)
     (one .add-band .ensures) (omega arith) (two .add-band2 .ensures) (omega arith) (taken .take-rows .ensures)
 
 pub settle-spec : {M : Type 1} → statement M

@@ -1,6 +1,6 @@
 -- `job_form::job_line` meets its contract: by how many parts were found.
 use borrow.Author.Needs.{needs}
-use Rattle.job_form.proofs.Lines.{job-none, job-one, job-more}
+use Rattle.job_form.proofs.Lines.{job-none, job-one, job-two, job-more}
 use Rattle.job_form.proofs.forms.job_line.Statement.{statement}
 use Rattle.job_form.proofs.forms.job_line.Tie as tie
 
@@ -11,9 +11,15 @@ job-line-spec =
     (λ c κs. search needs)
     (λ c. search job-none)
     (λ c κs. search needs)
+    (λ c. search job-one)
+    (λ c κs. search needs)
     (λ c. search job-more)
     (λ c. search needs)
     (λ c. search needs)
     (λ c. search needs)
     (λ c κs. search needs)
-    (λ c. search job-one))
+    (λ c. search needs)
+    (λ c. search needs)
+    (λ c. search needs)
+    (λ c κs. search needs)
+    (λ c. search job-two))

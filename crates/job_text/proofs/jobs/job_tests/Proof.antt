@@ -1,7 +1,7 @@
 -- `job_text::job_tests` meets its contract: each return is the first test of the table that applies.
 use borrow.Author.Needs.{needs}
 use Rattle.refusals.proofs.First.{tests}
-use Rattle.job_text.proofs.Tables.{numbers}
+use Rattle.job_text.proofs.Tables.{numbers, further}
 use Rattle.job_text.proofs.jobs.job_tests.Statement.{statement}
 use Rattle.job_text.proofs.jobs.job_tests.Tie as tie
 
@@ -15,6 +15,5 @@ job-tests-spec =
     (λ c. search (tests, numbers))
     (λ c κs. search needs)
     (λ c. search (tests, numbers) depth 9)
-    (λ c. search (tests, numbers) depth 12)
-    (λ c. search (tests, numbers) depth 12)
-    (λ c. search (tests, numbers) depth 12))
+    (λ c κs. search needs)
+    (λ c. search (tests, numbers, further) depth 9))

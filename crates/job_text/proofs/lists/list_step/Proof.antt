@@ -12,5 +12,4 @@ list-step-spec =
     (λ c κs. search needs)
     (λ c. search (list-stops, c .if1 .taken))
     (λ c κs. search needs)
-    (λ c κs. search needs)
     (λ c. search list-goes))

@@ -14,8 +14,6 @@ list-tests-spec =
     (λ c κs. search needs)
     (λ c. search (tests, numbers))
     (λ c κs. search needs)
-    (λ c. search (tests, numbers) depth 9)
-    (λ c κs. search needs)
     (λ c. search (tests, numbers) depth 12)
     (λ c. search (tests, numbers) depth 12)
     (λ c. search (tests, numbers) depth 12))

@@ -26,6 +26,7 @@ advance-spec =
     (λ c κs. search needs)
     (λ c. search list-line)
     (λ c. search needs)
+    (λ c. search needs)
     (λ c. search job-line)
     (λ c. search needs)
     (λ c. search row-line)

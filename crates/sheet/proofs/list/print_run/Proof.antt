@@ -4,38 +4,33 @@ use Rattle.sheet.proofs.Run.{jobs-room, printable, start-accepts, run-a
 use Rattle.sheet.proofs.list.print_run.Statement.{statement}
 use Rattle.sheet.proofs.list.print_run.Tie as tie
 
--- The places after the calls of run, clear, start and number, and the beginning.
+-- The places after the calls of run, clear and start, and the beginning.
 abbrev cleared : tie.After-run → tie.After-clear
 cleared c = c .before .before .before .before .before .before
 
 abbrev started : tie.After-clear → tie.After-start
 started c = c .before .before .before .before .before .before
 
-abbrev named : tie.After-start → tie.After-number
-named c = c .before .before
-
-abbrev begun : tie.After-number → tie.Start
-begun c = c .before .before .before .before .before .before .before
+abbrev begun : tie.After-start → tie.Start
+begun c = c .before .before .before .before .before .before .before .before .before
 
 turned-back : tie.Need-returns
 turned-back c =
     let s : tie.After-start = search needs in
-    let n = named s in
-    absurd (start-accepts (begun n .pre) (n .number .ensures) (s .start .ensures) (c .match .keys2))
+    absurd (start-accepts (begun s .pre) (s .start .ensures) (c .match .keys2))
 
 run-turned-back : tie.Need-returns-2
 run-turned-back c =
     let r : tie.After-run = search needs in
     let z = cleared r in
     let s = started z in
-    let n = named s in
-    absurd (run-accepts (begun n .pre) (n .number .ensures) (s .start .ensures) (z .clear .ensures) (r .run .ensures) (c .match2 .keys2))
+    absurd (run-accepts (begun s .pre) (s .start .ensures) (z .clear .ensures) (r .run .ensures) (c .match2 .keys2))
 
 lines-ready : tie.Need-put-ticks-requires
 lines-ready c κs =
     let r : tie.After-run = search needs in
     let z = cleared r in
-    (printable (begun (named (started z)) .pre) (z .clear .ensures) (r .run .kept .1 .1 .1 .1 .1 .0), search needs)
+    (printable (begun (started z) .pre) (z .clear .ensures) (r .run .kept .1 .1 .1 .1 .1 .1 .0), search needs)
 
 printed : tie.Need-returns-3
 printed c =
@@ -45,8 +40,7 @@ printed c =
     let r : tie.After-run = search needs in
     let z = cleared r in
     let s = started z in
-    let n = named s in
-    sheet-printed (begun n .pre) (n .number .ensures) (s .start .ensures) (z .clear .ensures) (r .run .ensures) (known .ticks .given .1)
+    sheet-printed (begun s .pre) (s .start .ensures) (z .clear .ensures) (r .run .ensures) (known .ticks .given .1)
     (first .put-jobs .ensures) (lines .put-ticks .ensures)
 
 pub print-run-spec : {M : Type 1} → statement M
@@ -54,7 +48,6 @@ print-run-spec =
     tie.close
     (tie.spec
     -- start
-    (λ c κs. search needs)
     (λ c κs. search needs)
     (λ c. search needs)
     (λ c. search needs)
@@ -68,7 +61,7 @@ print-run-spec =
     (λ c. search needs)
     run-turned-back
     -- the sheet
-    (λ c. let r : tie.After-run = search needs in jobs-room (begun (named (started (cleared r))) .pre))
+    (λ c. let r : tie.After-run = search needs in jobs-room (begun (started (cleared r)) .pre))
     (λ c. search needs)
     (λ c κs. search needs)
     (λ c. search needs)

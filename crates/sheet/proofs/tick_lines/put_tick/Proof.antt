@@ -1,9 +1,12 @@
 -- `put_tick` meets its contract: before the first job's entries leave and after the last job's, nothing is printed; else the job
 -- and the sum of row and column are divided out of the tick.
 use borrow.Author.Needs.{needs}
-use Rattle.sheet.proofs.Leaving.{tick-early, tick-late, tick-printed, sizes-ready, size-room, square-room, end-room, end-within, part-fits}
+use Rattle.sheet.proofs.Leaving.{tick-early, tick-late, tick-printed, algebra-there, sizes-ready, size-room, square-room, end-room, end-within, part-fits}
 use Rattle.sheet.proofs.tick_lines.put_tick.Statement.{statement}
 use Rattle.sheet.proofs.tick_lines.put_tick.Tie as tie
+
+lines-printed : tie.Need-returns-3
+lines-printed c = search tick-printed
 
 part-ready : tie.Need-put-rows-requires
 part-ready c κs =
@@ -26,7 +29,8 @@ put-tick-spec =
     (λ c. search needs)
     (λ c. search needs)
     (λ c. search tick-late)
-    -- the job's part of the results
+    -- the job's algebra and its part of the results
+    (λ c κs. let asked : tie.Start = search needs in let job : tie.Else2 = search needs in algebra-there (asked .pre) (job .if2 .left))
     (λ c. search needs)
     (λ c. search needs)
     (λ c. let asked : tie.Start = search needs in let job : tie.Else2 = search needs in size-room (asked .pre) (job .if2 .left))
@@ -45,4 +49,4 @@ put-tick-spec =
     part-ready
     -- its rows
     (λ c. search needs)
-    (λ c. search tick-printed))
+    lines-printed)

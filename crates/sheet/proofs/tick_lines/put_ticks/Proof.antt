@@ -7,10 +7,10 @@ use Rattle.sheet.proofs.tick_lines.put_ticks.Statement.{statement}
 use Rattle.sheet.proofs.tick_lines.put_ticks.Tie as tie
 
 abbrev Inv-loop : tie.InvT-loop
-Inv-loop page₀ at algebra order sizes results ticks next₀ t₀ page next t = Printed (tickLines algebra order sizes results) ticks page₀ at page next t
+Inv-loop page₀ at algebras order sizes results ticks next₀ t₀ page next t = Printed (tickLines algebras order sizes results) ticks page₀ at page next t
 
 abbrev μ-loop : tie.MeasureT-loop
-μ-loop page₀ at algebra order sizes results ticks next₀ t₀ page next t = ticks - t
+μ-loop page₀ at algebras order sizes results ticks next₀ t₀ page next t = ticks - t
 
 pub put-ticks-spec : {M : Type 1} → statement M
 put-ticks-spec =

@@ -20,4 +20,4 @@ emit-spec =
     (λ c. search emit-there)
     (λ c κs. search emit-sends)
     (λ c. search needs)
-    (λ c. λ algebra sizes weights t step found. search emit-done depth 9))
+    (λ c. λ algebras sizes weights t step found. search emit-done depth 9))

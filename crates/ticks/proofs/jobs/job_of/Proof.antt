@@ -1,6 +1,6 @@
 -- A live pass has a job of the list, and its part is within the list's words, which are few.
 use borrow.Author.Needs.{needs}
-use Rattle.ticks.proofs.Places.{pass-there, job-there, job-starts, starts-room, size-room, end-room, job-found, none-found}
+use Rattle.ticks.proofs.Places.{pass-there, job-there, job-named, job-starts, starts-room, size-room, end-room, job-found, none-found}
 use Rattle.ticks.proofs.jobs.job_of.Statement.{statement}
 use Rattle.ticks.proofs.jobs.job_of.Tie as tie
 
@@ -11,8 +11,10 @@ job-of-spec =
     (λ c κs. search needs)
     -- the number of the job
     (λ c. search pass-there)
-    (λ c. search needs)
+    -- its algebra
+    (λ c κs. search job-named)
     -- its size and where its part begins
+    (λ c. search needs)
     (λ c. search job-there)
     (λ c κs. search needs)
     (λ c. search starts-room)

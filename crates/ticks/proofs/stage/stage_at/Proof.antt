@@ -1,4 +1,4 @@
--- Tick t is step t + 4N of cell (0, 0), and the jobs are those of its pass and of the pass two before.
+-- Tick t is step t + 4N of cell (0, 0), and the jobs are those of its pass and of the two before it.
 use native.Mathlib.Omega.{arith}
 use borrow.Author.Needs.{needs}
 use Rattle.ticks.proofs.Run.{pass-there, staged}
@@ -15,9 +15,12 @@ stage-at-spec =
     (λ c κs. search needs)
     (λ c. let at : tie.Start = search in let turn : tie.After-at = search in omega (arith, pass-there (at .pre) (turn .at .ensures)))
     (λ c κs. search needs)
+    (λ c. let at : tie.Start = search in let turn : tie.After-at = search in omega (arith, pass-there (at .pre) (turn .at .ensures)))
+    (λ c κs. search needs)
     (λ c.
     let at : tie.Start = search in
     let turn : tie.After-at = search in
     let first : tie.After-job-of = search in
     let second : tie.After-job-of2 = search in
-    staged (at .pre) (turn .at .ensures) (first .job-of .ensures) (second .job-of2 .ensures)))
+    let third : tie.After-job-of3 = search in
+    staged (at .pre) (turn .at .ensures) (first .job-of .ensures) (second .job-of2 .ensures) (third .job-of3 .ensures)))

@@ -19,4 +19,4 @@ sweep-spec =
     let came : tie.After-enter = search in
     came-lent (start .pre) (slid .slide .ensures) (came .enter .ensures))
     (λ c. search needs)
-    (λ c. λ sizes weights t r count step held edged. search sweep-made depth 9))
+    (λ c. λ algebras sizes weights t r count step first second held edged. search sweep-made depth 9))

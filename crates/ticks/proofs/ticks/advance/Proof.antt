@@ -4,7 +4,7 @@ use native.Mathlib.Omega.{arith}
 use borrow.Author.Needs.{needs}
 use Rattle.job_list.specs.Jobs.{jobsOf}
 use Rattle.ticks.specs.Found.{Listed}
-use Rattle.ticks.proofs.Run.{Making, ready-small, begins, one-asked, tick-room, goes-on, ends}
+use Rattle.ticks.proofs.Run.{Making, ready-small, begins, one-asked, findable, tick-room, goes-on, ends}
 use Rattle.ticks.proofs.ticks.advance.Statement.{statement}
 use Rattle.ticks.proofs.ticks.advance.Tie as tie
 
@@ -12,16 +12,16 @@ pub advance-spec : {M : Type 1} → statement M
 advance-spec =
     tie.close
     (tie.spec
-    (λ algebra n sizes weights edges₀ planes₀ results₀ starts to t₀ edges planes results t.
-    Listed sizes starts × Making (jobsOf algebra n sizes weights) t₀ to t planes₀ results₀ edges planes results)
-    (λ algebra n sizes weights edges₀ planes₀ results₀ starts to t₀ edges planes results t. to - t)
+    (λ n algebras sizes weights edges₀ planes₀ results₀ starts to t₀ edges planes results t.
+    Listed sizes starts × Making (jobsOf algebras n sizes weights) t₀ to t planes₀ results₀ edges planes results)
+    (λ n algebras sizes weights edges₀ planes₀ results₀ starts to t₀ edges planes results t. to - t)
     -- the starts
     (λ c. search needs)
     (λ c κs. search (needs, ready-small))
     (λ c. search begins)
     -- the tick
     (λ c. search needs)
-    (λ c κs. search (needs, tick-room))
+    (λ c κs. search (needs, tick-room, findable))
     (λ c κs.
     let stage = c .before .before .before in
     let turn = stage .before .before in
