@@ -18,7 +18,7 @@ use Rattle.closure.specs.Table.{entries}
 use Rattle.closure.proofs.Accepted.{Accepted, accepted, accepts}
 use Rattle.job_list.specs.Jobs.{Jobs, jobsOf, count, size, algebraOf, algebra, offset, partOf, jobWeights}
 use Rattle.job_list.specs.Fits.{ListAccepted}
-use Rattle.job_list.proofs.Places.{offset-below}
+use Rattle.job_list.proofs.Places.{offset-below, part-word}
 use Rattle.systolic.specs.State.{stateLength}
 use Rattle.systolic.specs.Start.{startTable}
 use Rattle.systolic.proofs.Started.{started-by, starts}
@@ -135,10 +135,8 @@ module _ (J : Jobs) (list : ListAccepted J) where
       let h : i * n + j < n * n = digits-lt hi hj in
       let below : at + r < length (J .weights) = omega (arith, list .weights-fit, offset-below (J .sizes) q (i * n + j) hq h) in
       rw (
-        getD-take (n * n) (drop at (supports J)) (i * n + j) 0 h,
-        getD-drop at (supports J) (i * n + j) 0,
-        getD-take (n * n) (drop at (J .weights)) (i * n + j) 0 h,
-        getD-drop at (J .weights) (i * n + j) 0,
+        part-word (J .sizes) (supports J) q (i * n + j) h,
+        part-word (J .sizes) (J .weights) q (i * n + j) h,
         getD-listOf (length (J .weights)) of (at + (i * n + j)) below,
         job-of-word (J .sizes) q (i * n + j) hq h,
       )

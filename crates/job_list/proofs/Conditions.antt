@@ -6,8 +6,7 @@ use native.Mathlib.Omega.{arith}
 use mathlib.Core.Path.{_≡_, refl}
 use mathlib.Core.Logic.{_⊎_, inl, inr}
 use mathlib.Core.List.{List}
-use lib.ListN.{length, getD, drop, length-take, length-drop}
-use lib.Seq.{getD-take, getD-drop}
+use lib.ListN.{length, getD}
 use Rattle.refusals.specs.Conditions.{Words16}
 use Rattle.refusals.proofs.Conditions.{Decides, either, decides-never}
 use Rattle.semiring.specs.Algebra.{topOf}
@@ -17,15 +16,13 @@ use Rattle.semiring.specs.declared.Algebra.the-variants.{Reach, Distance, Steep
 use Rattle.semiring.proofs.Numbers.{decides-reach}
 use Rattle.job_list.specs.Jobs.{known, algebraOf, offset, partOf}
 use Rattle.job_list.specs.Fits.{aboveBefore, jobAbove}
+use Rattle.job_list.proofs.Places.{part-word, part-there}
 
 -- a part of 16-bit words
 part-words : (sizes weights : List ℕ) → Words16 weights → (q : ℕ) → Words16 (partOf sizes weights q)
 part-words sizes weights h q p k =
-    let n : ℕ = getD sizes q 0 in
-    let at : ℕ = offset sizes q in
-    let short : p < n * n = omega (arith, length-take (n * n) (drop at weights)) in
-    let there : at + p < length weights = omega (arith, length-take (n * n) (drop at weights), length-drop at weights) in
-    rw (getD-take (n * n) (drop at weights) p 0 short, getD-drop at weights p 0) (h (at + p) there)
+    let (short, there) = part-there sizes weights q p k in
+    rw (part-word sizes weights q p short) (h (offset sizes q + p) there)
 
 -- by the number of the job's algebra
 decides-number : (number : ℕ) (w : List ℕ) → Words16 w → Decides (anyAbove (topOf (known (namedOf number))) w) (ReachAbove number w)

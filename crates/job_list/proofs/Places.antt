@@ -4,11 +4,12 @@ use native.Mathlib.Nat.{div-add-mod', div-lt-iff-lt-mul, mod-lt, not-suc-le-zero
 use native.Mathlib.Numerals.{add-one}
 use native.Mathlib.Omega.{arith}
 use native.Mathlib.Decide.{decLt}
-use mathlib.Core.Path.{_≡_, refl, ap}
+use mathlib.Core.Path.{_≡_, refl, ap, _∙_}
 use mathlib.Core.List.{List, [], _∷_}
-use lib.ListN.{length, getD}
+use lib.ListN.{length, getD, drop, length-take, length-drop}
+use lib.Seq.{getD-take, getD-drop}
 use lib.Arith.{digits-lt}
-use Rattle.job_list.specs.Jobs.{Jobs, Entry, size, offset, wordsOf, place}
+use Rattle.job_list.specs.Jobs.{Jobs, Entry, size, offset, wordsOf, partOf, place}
 use Rattle.memory.proofs.Geometry.{same-digits}
 
 pub offset-none : (sizes : List ℕ) → offset sizes 0 ≡ 0
@@ -40,6 +41,20 @@ unfolding offset
 offset-below [] q r h k = absurd (not-suc-le-zero h)
 offset-below (n ∷ sizes) zero r h k = omega arith
 offset-below (n ∷ sizes) (suc q) r h k = omega (arith, offset-below sizes q r (omega arith) k)
+
+-- Which one, of the words that are there.
+pub part-word : (sizes weights : List ℕ) (q r : ℕ) → r < getD sizes q 0 * getD sizes q 0 → getD (partOf sizes weights q) r 0 ≡ getD weights (offset sizes q + r) 0
+part-word sizes weights q r h =
+    getD-take (getD sizes q 0 * getD sizes q 0) (drop (offset sizes q) weights) r 0 h ∙ getD-drop (offset sizes q) weights r 0
+
+pub part-there : (sizes weights : List ℕ) (q r : ℕ) → r < length (partOf sizes weights q)
+    → (r < getD sizes q 0 * getD sizes q 0) × (offset sizes q + r < length weights)
+part-there sizes weights q r h =
+    let n : ℕ = getD sizes q 0 in
+    let at : ℕ = offset sizes q in
+    let taken = length-take (n * n) (drop at weights) in
+    let dropped = length-drop at weights in
+    (omega arith, omega arith)
 
 offset-same : (sizes : List ℕ) (q r q′ r′ : ℕ) → q < length sizes → q′ < length sizes
     → r < getD sizes q 0 * getD sizes q 0 → r′ < getD sizes q′ 0 * getD sizes q′ 0

@@ -1,11 +1,10 @@
 -- A list of one algebra: some job has a word above exactly where the list has one.
-use Prim.Native.Nat.{ℕ, zero, suc, _+_, _*_, _≤_, _<_}
+use Prim.Native.Nat.{ℕ, zero, suc, _+_, _≤_, _<_}
 use native.Mathlib.Omega.{arith}
 use mathlib.Core.Path.{_≡_, refl, sym, ap, _∙_}
 use mathlib.Core.List.{List}
 use mathlib.Core.Bool.{Bool, true, false}
-use lib.ListN.{length, getD, take, drop, length-take}
-use lib.Seq.{getD-take, getD-drop}
+use lib.ListN.{length, getD}
 use Rattle.memory.proofs.Any.{any-none}
 use Rattle.refusals.proofs.First.{equal}
 use Rattle.semiring.specs.Algebra.{topOf}
@@ -15,7 +14,7 @@ use Rattle.semiring.specs.declared.Algebra.{Algebra}
 use Rattle.semiring.proofs.Above.{none-above, words-below}
 use Rattle.job_list.specs.Jobs.{known, algebraOf, offset, partOf}
 use Rattle.job_list.specs.Fits.{anyOther, aboveBefore, jobAbove, Parts}
-use Rattle.job_list.proofs.Places.{offset-find}
+use Rattle.job_list.proofs.Places.{offset-find, part-word, part-there}
 use Rattle.job_list.proofs.Fits.{above-one}
 
 -- false together, so alike
@@ -41,12 +40,8 @@ module _ {algebras sizes weights : List ℕ} (asked : Parts algebras sizes weigh
   -- the words of the list are within the bound, so those of a part are
   part-below : anyAbove first-top weights ≡ false → (q : ℕ) → anyAbove first-top (partOf sizes weights q) ≡ false
   part-below e q =
-      let n : ℕ = getD sizes q 0 in
-      let at : ℕ = offset sizes q in
       none-above first-top (partOf sizes weights q)
-      (λ p h.
-      let short : p < n * n = omega (arith, length-take (n * n) (drop at weights)) in
-      rw (getD-take (n * n) (drop at weights) p 0 short, getD-drop at weights p 0) (words-below first-top weights e (at + p)))
+      (λ p h. rw (part-word sizes weights q p (part-there sizes weights q p h .0)) (words-below first-top weights e (offset sizes q + p)))
 
   all-below : anyAbove first-top weights ≡ false → (m : ℕ) → m ≤ length sizes → aboveBefore algebras sizes weights m ≡ false
   unfolding aboveBefore
@@ -59,12 +54,9 @@ module _ {algebras sizes weights : List ℕ} (asked : Parts algebras sizes weigh
       none-above first-top weights
       (λ p h.
       let (q, r, hq, hr, place) = offset-find sizes p (omega (arith, asked .weights-fit)) in
-      let n : ℕ = getD sizes q 0 in
-      let at : ℕ = offset sizes q in
       let none : anyAbove (topOf (algebraOf algebras q)) (partOf sizes weights q) ≡ false = above-one algebras sizes weights (length sizes) e q hq in
       let word : getD (partOf sizes weights q) r 0 ≤ topOf (algebraOf algebras q) = words-below (topOf (algebraOf algebras q)) (partOf sizes weights q) none r in
-      let there : getD (partOf sizes weights q) r 0 ≡ getD weights p 0 =
-      getD-take (n * n) (drop at weights) r 0 hr ∙ getD-drop at weights r 0 ∙ ap (λ (m : ℕ). getD weights m 0) (sym place) in
+      let there : getD (partOf sizes weights q) r 0 ≡ getD weights p 0 = part-word sizes weights q r hr ∙ ap (λ (m : ℕ). getD weights m 0) (sym place) in
       rw (← there, ← one-algebra q hq) word)
 
   pub plain-above : {a : Algebra} {above : Bool} → a ≡ algebraOf algebras 0 → above ≡ anyAbove (topOf a) weights
