@@ -11,7 +11,8 @@ use Rattle.memory.proofs.Any.{both-false}
 use Rattle.refusals.proofs.First.{First, hit, skip, clear, answers, Clear, same, differ, told, same-as, differs-from, equal}
 use Rattle.systolic.specs.State.{orderOf, countOf, total}
 use Rattle.job_list.specs.Jobs.{wordsOf}
-use Rattle.job_list.specs.Fits.{anyOutside, Small, Parts}
+use Rattle.job_list.specs.Fits.{anyOutside, Small}
+use Rattle.job_list.specs.inner.Parts.{Parts}
 use Rattle.systolic.specs.Run.{runTable, runTests, ran}
 use Rattle.job_list.proofs.Fits.{tested-small, sizes-fit}
 use Rattle.array.specs.declared.head.Header.{Header}

@@ -7,7 +7,8 @@ use lib.Dec.{eqb}
 use lib.ListN.{length}
 use Rattle.refusals.proofs.First.{First, answers}
 use Rattle.job_list.specs.Jobs.{wordsOf}
-use Rattle.job_list.specs.Fits.{anyOutside, Small, Parts}
+use Rattle.job_list.specs.Fits.{anyOutside, Small}
+use Rattle.job_list.specs.inner.Parts.{Parts}
 use Rattle.systolic.specs.Start.{startTable, startTests, started}
 use Rattle.array.specs.declared.starting.StartAnswer.{StartAnswer}
 use Rattle.array.specs.declared.starting.StartAnswer.the-variants.{Done}

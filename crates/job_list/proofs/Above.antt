@@ -16,7 +16,8 @@ use Rattle.semiring.specs.declared.Algebra.the-variants.{Steepest}
 use Rattle.semiring.specs.declared.Named.{Named}
 use Rattle.semiring.specs.declared.Named.the-variants.{Known, Unknown}
 use Rattle.job_list.specs.Jobs.{known, algebraOf, offset, partOf}
-use Rattle.job_list.specs.Fits.{aboveBefore, jobAbove, Parts}
+use Rattle.job_list.specs.Fits.{aboveBefore, jobAbove}
+use Rattle.job_list.specs.inner.Parts.{Parts}
 use Rattle.job_list.proofs.Places.{offset-none, offset-one, part-within}
 use Rattle.job_list.proofs.Fits.{area-fits, words-most}
 

@@ -13,7 +13,8 @@ use Rattle.semiring.specs.Named.{namedOf}
 use Rattle.semiring.specs.declared.Algebra.{Algebra}
 use Rattle.semiring.proofs.Above.{none-above, words-below}
 use Rattle.job_list.specs.Jobs.{known, algebraOf, offset, partOf}
-use Rattle.job_list.specs.Fits.{anyOther, aboveBefore, jobAbove, Parts}
+use Rattle.job_list.specs.Fits.{aboveBefore, jobAbove}
+use Rattle.job_list.specs.inner.Parts.{anyOther, Parts}
 use Rattle.job_list.proofs.Places.{offset-find, part-word, part-there}
 use Rattle.job_list.proofs.Fits.{above-one}
 

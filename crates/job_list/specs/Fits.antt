@@ -2,8 +2,8 @@
 use Prim.Native.Nat.{ℕ, zero, suc, _≤_, _<_}
 use mathlib.Core.Path.{_≡_}
 use mathlib.Core.List.{List}
-use mathlib.Core.Bool.{Bool, false, not, _||_}
-use lib.Dec.{eqb, ltb}
+use mathlib.Core.Bool.{Bool, false, _||_}
+use lib.Dec.{ltb}
 use lib.ListN.{length, getD}
 use Rattle.memory.specs.Lists.{any}
 use Rattle.refusals.specs.Tests.{outside}
@@ -14,10 +14,6 @@ use Rattle.job_list.specs.Jobs.{Jobs, count, size, algebraOf, algebra, w
 -- "1 algebra unknown": the numbers are 0, 1 and 2. Request K8: "Test 1 looks at every algebra lent".
 abbrev pub anyUnknown : List ℕ → Bool
 anyUnknown = any (ltb 2)
-
--- Whether a number is another than the given one.
-abbrev pub anyOther : ℕ → List ℕ → Bool
-anyOther n = any (λ (m : ℕ). not (eqb m n))
 
 -- "a job's size outside 1 to N"
 abbrev pub anyOutside : ℕ → List ℕ → Bool
@@ -57,10 +53,3 @@ pub record ListAccepted (J : Jobs) : Type 0 where
 pub record Small (sizes : List ℕ) : Type 0 where
   pub few : length sizes ≤ 16
   pub small : (q : ℕ) → q < length sizes → getD sizes q 0 ≤ 32
-
--- One such job at least, an algebra for each, and the words of all.
-pub record Parts (algebras sizes weights : List ℕ) : Type 0 where
-  pub some : 1 ≤ length sizes
-  pub small : Small sizes
-  pub algebras-fit : length algebras ≡ length sizes
-  pub weights-fit : length weights ≡ wordsOf sizes

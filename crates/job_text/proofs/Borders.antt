@@ -23,6 +23,7 @@ pub record Borders : Type 0 where
   pub part-more : readingOf 16 16 16384 (ascii "(list 2 distance") ≡ refused (refusal 14 1)
   pub no-name : readingOf 16 16 16384 (ascii "(list 2\n(job 2") ≡ refused (refusal 14 2)
   pub number-for-name : readingOf 16 16 16384 (ascii "(list 2\n(job 2 1") ≡ refused (refusal 14 2)
+  pub part-behind : readingOf 16 16 16384 (ascii "(list 2\n(job 2 distance 1") ≡ refused (refusal 14 2)
   pub name-before-long : readingOf 16 16 16384 (ascii "(list 2\n(job 000001 north") ≡ refused (refusal 14 2)
   pub long-before-size : readingOf 16 16 16384 (ascii "(list 2\n(job 000003 reach") ≡ refused (refusal 15 2)
   pub size-above : readingOf 16 16 16384 (ascii "(list 2\n\n(job 3 reach") ≡ refused (refusal 8 3)
@@ -37,6 +38,7 @@ pub record Borders : Type 0 where
   pub comment-behind : readingOf 16 16 16384 (ascii "(list 2\n(job 1 reach\n(row 0) ; c") ≡ refused (refusal 14 3)
   pub row-too-many : readingOf 16 16 16384 (ascii "(list 1\n(job 1 reach\n(row 0)\n(row 0)") ≡ refused (refusal 14 4)
   pub closed-early : readingOf 16 16 16384 (ascii "(list 2\n(job 2 reach\n(row 0 0)\n)") ≡ refused (refusal 14 4)
+  pub bracket-and-more : readingOf 16 16 16384 (ascii "(list 1\n(job 1 reach\n(row 0)\n) x") ≡ refused (refusal 14 4)
   pub ends-early : readingOf 16 16 16384 (ascii "(list 1\n(job 1 reach\n(row 0)\n)\n; c\n") ≡ refused (refusal 17 5)
   pub after-the-end : readingOf 16 16 16384 (ascii "(list 1\n(job 1 reach\n(row 0)\n)\n)\n\nx") ≡ refused (refusal 17 7)
   pub loose : readingOf 16 16 16384 (ascii "; c\n  (list   00001 \n(job  1 distance\n (row  65535)\n)  \n )\n  ; d") ≡ accepted 1 (1 ∷ []) (1 ∷ []) (65535 ∷ [])
@@ -59,6 +61,7 @@ borders = record {
   part-more = refl;
   no-name = refl;
   number-for-name = refl;
+  part-behind = refl;
   name-before-long = refl;
   long-before-size = refl;
   size-above = refl;
@@ -73,6 +76,7 @@ borders = record {
   comment-behind = refl;
   row-too-many = refl;
   closed-early = refl;
+  bracket-and-more = refl;
   ends-early = refl;
   after-the-end = refl;
   loose = refl;

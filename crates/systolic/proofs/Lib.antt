@@ -12,3 +12,4 @@ pub mod Corollaries
 pub mod Totals
 pub mod Refusals
 pub mod Zero
+pub mod Cards

@@ -3,3 +3,4 @@ pub mod Refusals
 pub mod Demand
 pub mod Corollaries
 pub mod Zero
+pub mod Cards

@@ -77,10 +77,10 @@ fn main() {
         return;
     }
     for (order, size) in ARRAYS {
-        arrays(&mut random, "array", &MIXES, order, size, 65535);
+        arrays(&mut random, "array", order, size, 65535);
     }
     for (order, size) in SINGLE_TICKS {
-        arrays(&mut random, "one tick a run", &MIXES[..3], order, size, 1);
+        arrays(&mut random, "one tick a run", order, size, 1);
     }
     for (order, size) in LISTS {
         for mix in MIXES {
@@ -231,19 +231,12 @@ fn jobs_of(random: &mut Random, (_, turn): Mix, order: usize, size: usize, kind:
 }
 
 /// In runs of `allowance` ticks.
-fn arrays(
-    random: &mut Random,
-    what: &str,
-    mixes: &[Mix],
-    order: usize,
-    size: usize,
-    allowance: u16,
-) {
+fn arrays(random: &mut Random, what: &str, order: usize, size: usize, allowance: u16) {
     let what = match size {
         1 => format!("{what}, 1 point"),
         _ => what.to_string(),
     };
-    for &mix in mixes {
+    for mix in MIXES {
         let jobs = jobs_of(random, mix, order, size, Kind::FullRange);
         let steps = (total(order, MAX_JOBS) * order * order) as f64;
         let times = array_times(&jobs, allowance).map(|time| time / steps);

@@ -7,7 +7,7 @@ use lib.ListN.{length, getD}
 use Rattle.refusals.specs.Conditions.{Conditions, otherwise, test, Exactly, Outside, Some, Words16}
 use Rattle.semiring.specs.Words.{ReachAbove}
 use Rattle.job_list.specs.Jobs.{wordsOf, partOf}
-use Rattle.systolic.specs.State.{orderOf, secondOf, countOf, tickOf}
+use Rattle.systolic.specs.State.{orderOf, countOf, tickOf}
 use Rattle.systolic.specs.Start.{startTests, stateAfterStart}
 use Rattle.systolic.specs.Run.{Ran, ran}
 
@@ -42,7 +42,7 @@ Start-refusals =
 pub data Unfit (state : List ℕ) : Type 0 where
   too-short : length state < 4 → Unfit state
   order-outside : Outside 1 32 (orderOf state) → Unfit state
-  second-not-zero : (secondOf state ≡ 0 → ⊥) → Unfit state
+  second-not-zero : (getD state 1 0 ≡ 0 → ⊥) → Unfit state
   jobs-outside : Outside 1 16 (countOf state) → Unfit state
   other-length : (length state ≡ 4 + 3 * (orderOf state * orderOf state) → ⊥) → Unfit state
   tick-above : 4 * orderOf state * countOf state + 2 * orderOf state - 2 < tickOf state → Unfit state
