@@ -11,13 +11,13 @@ use Rattle.job_list.specs.Fits.{Ranged}
 use Rattle.systolic.specs.State.{orderOf, countOf, tickOf, stateLength, total}
 use Rattle.systolic.specs.Run.{badTests, badState, runTests, ticksMade, ranOn, refusedRun, ran}
 use Rattle.refusals.proofs.First.{inside, equal, none-of}
-use Rattle.array.specs.declared.head.Header.{Header}
-use Rattle.array.specs.declared.head.HeaderRead.the-variants.{Fit, Unfit}
+use Rattle.state_header.specs.declared.Header.{Header}
+use Rattle.state_header.specs.declared.HeaderRead.the-variants.{Fit, Unfit}
 use Rattle.array.specs.declared.running.RunAnswer.{RunAnswer}
 use Rattle.array.specs.declared.running.RunAnswer.the-variants.{Made}
-use Rattle.array.specs.inner.Header.{headerOf}
+use Rattle.state_header.specs.inner.Header.{headerOf}
 use Rattle.array.specs.RunAnswer.{runNumber, runMade, Answered}
-use Rattle.array.specs.inner.Runnable.{RunLeft}
+use Rattle.state_ticks.specs.inner.Runnable.{RunLeft}
 
 pub record HeaderFits (h : Header) (state : List ℕ) : Type 0 where
   pub header : h ≡ headerOf state

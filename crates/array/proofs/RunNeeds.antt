@@ -15,15 +15,15 @@ use Rattle.job_list.specs.Fits.{anyOutside, Small}
 use Rattle.job_list.specs.inner.Parts.{Parts}
 use Rattle.systolic.specs.Run.{runTable, runTests, ran}
 use Rattle.job_list.proofs.Fits.{tested-small, sizes-fit}
-use Rattle.array.specs.declared.head.Header.{Header}
-use Rattle.array.specs.declared.head.HeaderRead.{HeaderRead}
-use Rattle.array.specs.declared.head.HeaderRead.the-variants.{Unfit}
+use Rattle.state_header.specs.declared.Header.{Header}
+use Rattle.state_header.specs.declared.HeaderRead.{HeaderRead}
+use Rattle.state_header.specs.declared.HeaderRead.the-variants.{Unfit}
 use Rattle.array.specs.declared.running.RunAnswer.{RunAnswer}
 use Rattle.array.specs.declared.running.RunAnswer.the-variants.{Made, StateUnfit}
-use Rattle.array.specs.inner.Header.{Told}
+use Rattle.state_header.specs.inner.Header.{Told}
 use Rattle.array.specs.RunAnswer.{runNumber, runMade, Answered}
-use Rattle.array.specs.inner.Runnable.{Runnable, RunLeft}
-use Rattle.array.proofs.Pairs.{neither}
+use Rattle.state_ticks.specs.inner.Runnable.{Runnable, RunLeft}
+use Rattle.starting.proofs.Pairs.{neither}
 use Rattle.array.proofs.Answers.{HeaderFits, run-turned, run-accepted, unfit-tests, made-within}
 
 -- the state's header was not read

@@ -1,5 +1,2 @@
 pub mod RunAnswer
-pub mod StartAnswer
-pub mod StartLeft
 pub mod Host
-pub mod inner

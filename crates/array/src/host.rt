@@ -4,8 +4,8 @@ ghost use Rattle.array.specs.Host.{StartedHost, RanHost};
 use crate::running::run;
 use crate::running::run_number;
 use crate::running::ticks_made;
-use crate::starting::start;
-use crate::starting::start_number;
+use starting::start;
+use starting::start_number;
 
 // It returns 0, or the refusal's number, and then leaves the state as it was.
 #[no_mangle]

@@ -4,18 +4,14 @@ ghost use Prim.Native.Nat.{_≤_, min};
 ghost use Rattle.systolic.specs.State.{scratchLength};
 ghost use Rattle.systolic.specs.Run.{ran};
 ghost use Rattle.array.specs.RunAnswer.{runNumber, runMade, Answered};
-ghost use Rattle.array.specs.inner.Runnable.{Runnable, RunLeft};
-use crate::head::Header;
-use crate::head::HeaderRead;
-use crate::head::read_header;
-use crate::head::store_header;
 use job_list::any_above;
 use job_list::any_outside;
 use job_list::any_unknown;
 use job_list::words_before;
 use memory::clear;
-use ticks::advance;
-use turns::Span;
+use state_header::HeaderRead;
+use state_header::read_header;
+use state_ticks::proceed;
 
 // What a call of run answers: the ticks made, or why it turned back.
 pub enum RunAnswer {
@@ -28,37 +24,6 @@ pub enum RunAnswer {
     ScratchLength,
     ResultsLength,
     WordAbove,
-}
-
-// `made` ticks of a state that runs, in its own planes.
-fn proceed(
-    header: Header,
-    made: u16,
-    algebras: &[u16],
-    sizes: &[u16],
-    weights: &[u16],
-    scratch: &mut [u16],
-    state: &mut [u16],
-    results: &mut [u16],
-)
-    requires { ⌜ Runnable header made (now algebras) (now sizes) (now weights) (now scratch) (now state) (now results) ⌝ }
-    ensures { λ _. ⌜ RunLeft made (now (algebras .entry)) (now (sizes .entry)) (now (weights .entry)) (now (state .entry))
-        (now (results .entry)) (now (state .exit)) (now (results .exit)) ⌝ }
-{
-    let n = header.order as usize;
-    let from = header.tick as usize;
-    let to = from + made as usize;
-    advance(
-        n,
-        Span { from: from, to: to },
-        algebras,
-        sizes,
-        weights,
-        scratch,
-        &mut state[4..],
-        results,
-    );
-    store_header(header.next_tick(made), state);
 }
 
 // Two lines: what comes in at the top and at the left.

@@ -2,7 +2,7 @@
 // error; after a failed read nothing is printed.
 ghost use mathlib.Core.Path.{_≡_};
 ghost use lib.ListN.{length};
-ghost use Rattle.sheet.specs.Sheet.{sheetOf};
+ghost use Rattle.sheet_form.specs.Sheet.{sheetOf};
 use input::read_all;
 use libc::STDOUT_FILENO;
 use sheet::PAGE_BYTES;

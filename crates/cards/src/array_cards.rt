@@ -1,10 +1,10 @@
 // Cards of the array.
 use array::run;
 use array::run_number;
-use array::start;
-use array::start_number;
 use array::ticks_made;
 use memory::same_words;
+use starting::start;
+use starting::start_number;
 
 // A start that answers the given number.
 pub fn starts(

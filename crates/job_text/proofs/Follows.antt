@@ -10,17 +10,18 @@ use lib.ListN.{length, drop, drop-of-length-le}
 use Rattle.text.specs.Pieces.{bytesOf, cut, lines, parts}
 use Rattle.job_form.specs.Forms.{formOf}
 use Rattle.text.specs.inner.Scan.{between, Until}
-use Rattle.job_text.specs.declared.state.Due.{Due}
-use Rattle.job_text.specs.declared.state.Due.the-variants as due
-use Rattle.job_text.specs.declared.state.State.{State}
-use Rattle.job_text.specs.declared.state.Next.{Next}
-use Rattle.job_text.specs.declared.state.Next.the-variants.{On, Stop}
-use Rattle.job_text.specs.declared.answer.Read.{Read}
-use Rattle.job_text.specs.declared.answer.Read.the-variants.{Refused}
-use Rattle.job_text.specs.Steps.{Progress, start, Step, go, stop, step}
-use Rattle.job_text.specs.Reading.{Reading, refused, refusal, ended, follow, answerOf, answered}
-use Rattle.job_text.specs.inner.States.{stateOf, AllCleared, Kept, Went, endedBy, Ended, Filled, Followed}
-use Rattle.job_text.specs.inner.Stepped.{Advanced}
+use Rattle.job_reading.specs.declared.state.Due.{Due}
+use Rattle.job_reading.specs.declared.state.Due.the-variants as due
+use Rattle.job_reading.specs.declared.state.State.{State}
+use Rattle.job_reading.specs.declared.state.Next.{Next}
+use Rattle.job_reading.specs.declared.state.Next.the-variants.{On, Stop}
+use Rattle.job_reading.specs.declared.answer.Read.{Read}
+use Rattle.job_reading.specs.declared.answer.Read.the-variants.{Refused}
+use Rattle.job_reading.specs.Steps.{Progress, start, Step, go, stop, step}
+use Rattle.job_reading.specs.Reading.{Reading, refused, refusal, ended, follow, answerOf, answered}
+use Rattle.job_steps.specs.inner.States.{stateOf, AllCleared, Kept, Went, endedBy, Ended, Filled, Followed}
+use Rattle.job_steps.specs.inner.Stepped.{Advanced}
+use Rattle.job_reading.proofs.Insensitive.{follow-stop}
 
 -- the lines from a place on
 abbrev linesFrom : ℕ → List ℕ → List (List ℕ)
@@ -66,11 +67,6 @@ went-on (stop k) s algebras sizes weights e = let z : _≡_ {A = ℕ} 0 1 = cc i
 went-stop : (t : Step) (k : ℕ) (algebras sizes weights : List ℕ) → Went t (Stop k) algebras sizes weights → t ≡ stop k
 went-stop (go p) k algebras sizes weights (s′, (e, h)) = let z : _≡_ {A = ℕ} 0 1 = cc in absurd (omega arith)
 went-stop (stop j) k algebras sizes weights e = let q : j ≡ k = cc in ap stop q
-
-pub follow-stop : (line k : ℕ) (ls : List (List ℕ)) → follow line ls (stop k) ≡ refused (refusal k line)
-unfolding follow
-follow-stop line k [] = refl
-follow-stop line k (l ∷ ls) = refl
 
 ended-answer : (d : Due) (n line : ℕ) (p : Progress) → endedBy d (stateOf n p) line ≡ answerOf (ended d line p)
 ended-answer due.List n line p = refl

@@ -1,14 +1,3 @@
-pub mod Listing
 pub mod Zeros
-pub mod Tables
-pub mod Tallies
-pub mod Turns
-pub mod Advances
 pub mod Follows
 pub mod Readings
-pub mod Insensitive
-pub mod JobsRead
-pub mod Whole
-pub mod LineTests
-pub mod Refusals
-pub mod Borders

@@ -6,13 +6,13 @@ use mathlib.Core.List.{List, []}
 use lib.ListN.{length}
 use borrow.Author.Tests.{ltb-false}
 use Rattle.text.specs.Pieces.{lines}
-use Rattle.job_text.specs.declared.answer.Refusal.{Refusal}
-use Rattle.job_text.specs.declared.answer.Read.{Read}
-use Rattle.job_text.specs.declared.answer.Read.the-variants.{List as Listed, Refused}
-use Rattle.job_text.specs.Steps.{go, start}
-use Rattle.job_text.specs.Reading.{Reading, refused, accepted, refusal, unless, follow, lengthTests, readingOf, turned, answerOf, answered, ReadInto}
+use Rattle.job_reading.specs.declared.answer.Refusal.{Refusal}
+use Rattle.job_reading.specs.declared.answer.Read.{Read}
+use Rattle.job_reading.specs.declared.answer.Read.the-variants.{List as Listed, Refused}
+use Rattle.job_reading.specs.Steps.{go, start}
+use Rattle.job_reading.specs.Reading.{Reading, refused, accepted, refusal, unless, follow, lengthTests, readingOf, turned, answerOf, answered, ReadInto}
 use Rattle.job_form.specs.Buffer.{padded}
-use Rattle.job_text.specs.inner.States.{Cleared, AllCleared, LengthsTested, Filled, Followed, Owed}
+use Rattle.job_steps.specs.inner.States.{Cleared, AllCleared, LengthsTested, Filled, Followed, Owed}
 use Rattle.job_form.proofs.Padded.{length-padded}
 use Rattle.refusals.proofs.First.{none-applied}
 

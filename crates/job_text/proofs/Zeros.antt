@@ -4,7 +4,7 @@ use mathlib.Core.Path.{_≡_, refl, ap, _∙_}
 use mathlib.Core.List.{List, [], _∷_}
 use lib.ListN.{replicate}
 use Rattle.job_form.specs.Buffer.{padded}
-use Rattle.job_text.specs.inner.States.{Cleared, AllCleared}
+use Rattle.job_steps.specs.inner.States.{Cleared, AllCleared}
 
 zeros : (n : ℕ) → replicate n 0 ≡ padded n []
 zeros zero = refl

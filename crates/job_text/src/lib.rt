@@ -3,27 +3,20 @@ ghost use mathlib.Core.Path.{_≡_};
 ghost use Prim.Native.Nat.{_≤_};
 ghost use lib.ListN.{length};
 ghost use Rattle.text.specs.Pieces.{lines};
-ghost use Rattle.job_text.specs.Steps.{go, start};
-ghost use Rattle.job_text.specs.Reading.{follow, ReadInto};
-ghost use Rattle.job_text.specs.inner.States.{stateOf, AllCleared, LengthsTested, Ended, Followed, Owed};
+ghost use Rattle.job_reading.specs.Steps.{go, start};
+ghost use Rattle.job_reading.specs.Reading.{follow, ReadInto};
+ghost use Rattle.job_steps.specs.inner.States.{stateOf, AllCleared, LengthsTested, Ended, Followed, Owed};
 
-mod answer;
 mod buffers;
-mod jobs;
-mod lists;
-mod rows;
-mod state;
-mod steps;
 
-pub use answer::Read;
-pub use answer::Refusal;
-use answer::refused;
 use buffers::clear_all;
+use job_lines::advance;
+use job_reading::Due;
+use job_reading::Next;
+use job_reading::Read;
+use job_reading::State;
+use job_reading::refused;
 use semiring::Algebra;
-use state::Due;
-use state::Next;
-use state::State;
-use steps::advance;
 use text::until;
 
 fn beginning() -> State

@@ -1,12 +1,1 @@
-pub mod Cards
-pub mod Demand
-pub mod Leaving
-pub mod Memory
-pub mod None
-pub mod Numbers
-pub mod Room
-pub mod Rows
-pub mod Run
-pub mod Sizes
-pub mod Solid
 pub mod Text

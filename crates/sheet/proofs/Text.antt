@@ -7,18 +7,18 @@ use lib.ListN.{length, take}
 use lib.Seq.{length-take-le}
 use Rattle.job_list.specs.Jobs.{offset, jobsOf}
 use Rattle.job_list.proofs.Fits.{fits-small}
-use Rattle.job_text.specs.declared.answer.Refusal.{Refusal}
-use Rattle.job_text.specs.declared.answer.Read.{Read}
-use Rattle.job_text.specs.declared.answer.Read.the-variants.{List as Listed, Refused}
-use Rattle.job_text.specs.Reading.{Reading, refused, accepted, readingOf, algebrasIn, sizesIn, weightsIn, given, turned, answerOf, answered, ReadInto}
+use Rattle.job_reading.specs.declared.answer.Refusal.{Refusal}
+use Rattle.job_reading.specs.declared.answer.Read.{Read}
+use Rattle.job_reading.specs.declared.answer.Read.the-variants.{List as Listed, Refused}
+use Rattle.job_reading.specs.Reading.{Reading, refused, accepted, readingOf, algebrasIn, sizesIn, weightsIn, given, turned, answerOf, answered, ReadInto}
 use Rattle.job_form.specs.Buffer.{padded}
 use Rattle.job_list.specs.Fits.{ListAccepted, Small}
 use Rattle.job_form.proofs.Padded.{length-padded}
-use Rattle.job_text.proofs.Whole.{whole, within-buffers}
+use Rattle.job_reading.proofs.Whole.{whole, within-buffers}
 use Rattle.text.specs.inner.Put.{Put}
 use Rattle.text.proofs.Put.{put-as}
-use Rattle.sheet.specs.Lines.{refusedLine}
-use Rattle.sheet.specs.Sheet.{wholeRun, sheetFrom, printed, sheetOf}
+use Rattle.sheet_form.specs.Lines.{refusedLine}
+use Rattle.sheet_form.specs.Sheet.{wholeRun, sheetFrom, printed, sheetOf}
 
 take-padded : (n : ℕ) (l : List ℕ) → length l ≤ n → take (length l) (padded n l) ≡ l
 take-padded n [] h = refl

@@ -5,17 +5,12 @@ ghost use Prim.Native.Nat.{min};
 ghost use lib.ListN.{length, drop};
 ghost use Rattle.text.specs.Page.{overwritten};
 ghost use Rattle.text.specs.inner.Put.{Put};
-ghost use Rattle.sheet.specs.Sheet.{sheetOf};
-
-mod lines;
-mod list;
-mod tick_lines;
-
+ghost use Rattle.sheet_form.specs.Sheet.{sheetOf};
 use job_list::words_before;
-use job_text::Read;
+use job_reading::Read;
 use job_text::read;
-use lines::put_refused;
-use list::print_list;
+use sheet_lines::put_refused;
+use sheet_list::print_list;
 
 // Room for every sheet: the claim `Room`.
 pub const PAGE_BYTES: usize = 475157;

@@ -1,6 +1,6 @@
 // The texts of the input.
 use crate::print;
-use job_text::Read;
+use job_reading::Read;
 use job_text::read;
 use text::until;
 

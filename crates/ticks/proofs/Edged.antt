@@ -13,9 +13,9 @@ use Rattle.systolic.specs.Cell.{Planes, Cell}
 use Rattle.turns.specs.declared.turn.Turn.{Turn}
 use Rattle.turns.specs.Turn.{live, jobIn, passIn, Phase, stepOf}
 use Rattle.turns.proofs.Turns.{pass-most, pass-next, live-same}
-use Rattle.ticks.specs.declared.jobs.Job.{Job}
-use Rattle.ticks.specs.Found.{Found}
-use Rattle.ticks.specs.Filled.{Filled, entryOf}
+use Rattle.stage.specs.declared.jobs.Job.{Job}
+use Rattle.stage.specs.Found.{Found}
+use Rattle.feeding.specs.Filled.{Filled, entryOf}
 use Rattle.ticks.specs.Swept.{Held, Edged}
 
 module _ (algebras : List ℕ) {n : ℕ} {head : Turn} {job : Job} (sizes weights : List ℕ) (t : ℕ) (below : head .point < n)

@@ -1,8 +1,6 @@
 -- A tick from its three calls, and ticks one after the other, of an array that is ready: `Ready` names the jobs and the memories.
 use Prim.Native.Nat.{ℕ, _+_, _-_, _*_, _≤_, _<_}
-use native.Mathlib.Nat.{mul-le-mul-left}
 use native.Mathlib.Omega.{arith}
-use native.Mathlib.Decide.{decLt}
 use mathlib.Core.Path.{_≡_, refl, sym, ap, _∙_}
 use mathlib.Core.List.{List}
 use lib.ListN.{length}
@@ -13,16 +11,15 @@ use Rattle.systolic.specs.Cell.{Planes}
 use Rattle.systolic.specs.Tick.{Array, planesAfter, emittedRows, ticked, ticks}
 use Rattle.systolic.proofs.Ticks.{ticks-add}
 use Rattle.systolic.proofs.Totals.{total-most}
-use Rattle.turns.specs.declared.turn.Turn.{Turn}
-use Rattle.turns.specs.Turn.{At, stepOf}
+use Rattle.turns.specs.Turn.{stepOf}
 use Rattle.turns.specs.Layout.{planesIn}
-use Rattle.ticks.specs.declared.jobs.Job.{Job}
-use Rattle.ticks.specs.declared.stage.Stage.{Stage}
-use Rattle.ticks.specs.Found.{Listed, Findable, AlgebraIn, Found}
-use Rattle.ticks.specs.Staged.{Staged}
-use Rattle.ticks.specs.Filled.{Filling, Filled}
+use Rattle.stage.specs.declared.jobs.Job.{Job}
+use Rattle.stage.specs.declared.stage.Stage.{Stage}
+use Rattle.stage.specs.Found.{Listed, Findable, AlgebraIn, Found}
+use Rattle.stage.specs.Staged.{Staged}
+use Rattle.feeding.specs.Filled.{Filling, Filled}
 use Rattle.ticks.specs.Swept.{Sweeping, Held, Edged, Made}
-use Rattle.ticks.specs.Sent.{Emitting}
+use Rattle.emission.specs.Sent.{Emitting}
 use Rattle.ticks.specs.Ready.{arrayOf, Ready}
 use Rattle.ticks.proofs.Edged.{edged}
 use Rattle.ticks.proofs.Lent.{held-planes, made-planes}
@@ -44,38 +41,6 @@ module _ {J : Jobs} {last : ℕ} {edges planes results : List ℕ} (ready : Read
     planes-fit = f ∙ ready .planes-fit;
     results-fit = g ∙ ready .results-fit;
     ticks = omega (arith, ready .ticks);
-  }
-
--- What stands in the array, from the turn of cell (0, 0) and the three jobs.
-module _ {n t : ℕ} {algebras sizes starts : List ℕ} {head : Turn}
-    (asked : (1 ≤ n) × (n ≤ 32) × (t ≤ 2110) × Findable algebras sizes starts) (at : At n (t + 4 * n) head) where
-  head-early : 4 ≤ head .pass
-  head-early = go (decLt (head .pass) 4)
-    where
-      go : Dec (head .pass < 4) → 4 ≤ head .pass
-      go (yes h) = absurd (omega (arith, at .at, at .below, mul-le-mul-left n h))
-      go (no h) = omega arith
-
-  pub pass-there : 2 ≤ head .pass
-  pass-there = omega (arith, head-early)
-
-  pub staged : {front middle back : Job} → Found algebras sizes (head .pass) front → Found algebras sizes (head .pass - 1) middle
-      → Found algebras sizes (head .pass - 2) back
-      → Staged n t algebras sizes (record { tick = t; head = head; front = front; middle = middle; back = back })
-  staged first second third = record {
-    tick = refl;
-    head = record {
-      least = asked .0;
-      most = asked .1;
-      few = asked .3 .listed .few;
-      below = at .below;
-      early = head-early;
-      late = omega (arith, at .at, asked .1, asked .2);
-    };
-    step = at .at;
-    front = first;
-    middle = second;
-    back = third;
   }
 
 -- The calls of a tick.

@@ -22,7 +22,7 @@ use Rattle.moves.specs.Edges.{Entered}
 use Rattle.moves.specs.Lent.{WithEdges}
 use Rattle.cells.specs.Work.{worked}
 use Rattle.cells.specs.Settled.{rowAlgebra, Settled}
-use Rattle.ticks.specs.Found.{AlgebraIn}
+use Rattle.stage.specs.Found.{AlgebraIn}
 use Rattle.ticks.specs.Swept.{Sweeping, Held, Edged, come, Came, Made}
 
 -- A word that is one of two by a test, under other names.

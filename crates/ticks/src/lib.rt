@@ -1,8 +1,4 @@
 // The ticks of the systolic array, in place in its planes: what comes in at its edges, the cells, what leaves.
-mod emission;
-mod feeding;
-mod jobs;
-mod stage;
 mod sweep;
 mod ticks;
 

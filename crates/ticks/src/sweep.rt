@@ -6,7 +6,7 @@ ghost use lib.ListN.{length};
 ghost use Rattle.systolic.specs.Cell.{Planes};
 ghost use Rattle.job_list.specs.Jobs.{jobsOf};
 ghost use Rattle.turns.specs.Turn.{stepOf};
-ghost use Rattle.ticks.specs.Found.{AlgebraIn};
+ghost use Rattle.stage.specs.Found.{AlgebraIn};
 ghost use Rattle.ticks.specs.Swept.{Sweeping, Held, Edged, Made};
 use cells::settle;
 use moves::enter;

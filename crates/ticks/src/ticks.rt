@@ -3,14 +3,14 @@ ghost use mathlib.Core.Path.{_≡_};
 ghost use Prim.Native.Nat.{_+_, _-_, _≤_};
 ghost use Rattle.systolic.specs.Tick.{ticked, ticks as ticksOf};
 ghost use Rattle.job_list.specs.Jobs.{jobsOf};
-ghost use Rattle.ticks.specs.Staged.{Staged};
+ghost use Rattle.stage.specs.Staged.{Staged};
 ghost use Rattle.ticks.specs.Ready.{arrayOf, Ready};
-use crate::emission::emit;
-use crate::feeding::fill;
-use crate::jobs::mark;
-use crate::stage::Stage;
-use crate::stage::stage_at;
 use crate::sweep::sweep;
+use emission::emit;
+use feeding::fill;
+use stage::Stage;
+use stage::mark;
+use stage::stage_at;
 use turns::Span;
 
 // The tick of a stage. `edges` has room for the words that come in at the top and at the left.

@@ -1,6 +1,6 @@
 -- `job_text::length_tests` meets its contract: each return is the first test of the table that applies.
 use Rattle.refusals.proofs.First.{tests}
-use Rattle.job_text.proofs.Tables.{or-first, or-second, or-neither, numbers}
+use Rattle.job_steps.proofs.Tables.{or-first, or-second, or-neither, numbers}
 use Rattle.job_text.proofs.length_tests.Statement.{statement}
 use Rattle.job_text.proofs.length_tests.Tie as tie
 

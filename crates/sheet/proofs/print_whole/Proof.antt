@@ -1,6 +1,6 @@
 -- `print_whole` meets its contract: no sheet is longer than the page, so nothing of it is cut off.
 use borrow.Author.Needs.{needs}
-use Rattle.sheet.proofs.Room.{whole-length, whole-page}
+use Rattle.sheet_form.proofs.Room.{whole-length, whole-page}
 use Rattle.sheet.proofs.print_whole.Statement.{statement}
 use Rattle.sheet.proofs.print_whole.Tie as tie
 

@@ -8,10 +8,10 @@ use denote.Ref.{now}
 use borrow.Author.Needs.{needs}
 use Rattle.refusals.proofs.First.{Clear, same, told, same-as}
 use Rattle.systolic.specs.Run.{runTable, ran}
-use Rattle.array.specs.declared.head.Header.{Header}
+use Rattle.state_header.specs.declared.Header.{Header}
 use Rattle.array.specs.declared.running.RunAnswer.{RunAnswer}
 use Rattle.array.specs.RunAnswer.{runNumber, runMade, Answered}
-use Rattle.array.proofs.Pairs.{pairs, neither}
+use Rattle.starting.proofs.Pairs.{pairs, neither}
 use Rattle.array.proofs.Answers.{HeaderFits, header-fits}
 use Rattle.array.proofs.RunNeeds.{run-tests, testOf, Before, unfit, refused, accepted, cleared, sizes-room, runnable, parts-there}
 use Rattle.array.proofs.running.run.Statement.{statement}

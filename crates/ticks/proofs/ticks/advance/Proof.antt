@@ -3,7 +3,7 @@ use Prim.Native.Nat.{_-_}
 use native.Mathlib.Omega.{arith}
 use borrow.Author.Needs.{needs}
 use Rattle.job_list.specs.Jobs.{jobsOf}
-use Rattle.ticks.specs.Found.{Listed}
+use Rattle.stage.specs.Found.{Listed}
 use Rattle.ticks.proofs.Run.{Making, ready-small, begins, one-asked, findable, tick-room, goes-on, ends}
 use Rattle.ticks.proofs.ticks.advance.Statement.{statement}
 use Rattle.ticks.proofs.ticks.advance.Tie as tie

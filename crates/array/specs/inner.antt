@@ -1,3 +1,0 @@
--- The vocabulary of inner contracts: nothing of document 01 stands here.
-pub mod Header
-pub mod Runnable

@@ -1,0 +1,3 @@
+pub mod PlaneWords
+pub mod Sent
+pub mod Emitted

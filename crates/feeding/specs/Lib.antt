@@ -1,0 +1,2 @@
+-- All of it is vocabulary of the ticks, which only `array` calls: what the array does is said in systolic/specs.
+pub mod Filled

@@ -1,4 +1,0 @@
-pub mod Steps
-pub mod Reading
-pub mod inner
-pub mod claims

@@ -1,4 +1,0 @@
-pub mod Lines
-pub mod Sheet
-pub mod claims
-pub mod inner

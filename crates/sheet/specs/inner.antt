@@ -1,3 +1,0 @@
--- What the functions inside ask of each other. No claim rests on these words.
-pub mod Leaving
-pub mod Memory

@@ -1,0 +1,9 @@
+pub mod Cards
+pub mod Demand
+pub mod None
+pub mod Numbers
+pub mod Room
+pub mod Rows
+pub mod Sizes
+pub mod Solid
+pub mod WholeRun

@@ -1,0 +1,2 @@
+pub mod StartAnswer
+pub mod StartLeft

@@ -1,0 +1,2 @@
+pub mod HeaderNeeds
+pub mod Rooms
