@@ -1,4 +1,4 @@
-/* Road files: the text form of the ninth DIMACS shortest path challenge, as the proved archive libroad_text.a reads it. */
+/* Road files: the text form of the ninth DIMACS shortest path challenge, as the proved archive libhost.a reads it. */
 #ifndef ROAD_H
 #define ROAD_H
 

@@ -1,2 +1,1 @@
 pub mod RunAnswer
-pub mod Host

@@ -1,9 +1,6 @@
-// The array's call run, which makes ticks of a started state, and the calls for other languages.
-mod host;
+// The array's call run, which makes ticks of a started state.
 mod running;
 
-pub use host::array_run;
-pub use host::array_start;
 pub use running::RunAnswer;
 pub use running::run;
 pub use running::run_number;

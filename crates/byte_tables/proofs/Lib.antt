@@ -1,3 +1,4 @@
 pub mod Parts
 pub mod Stretch
 pub mod Words
+pub mod Cards

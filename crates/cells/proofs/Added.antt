@@ -19,7 +19,7 @@ use Rattle.turns.proofs.Spans.{span-in, span-out, digits-here, digits-behind, b
 use Rattle.turns.specs.Layout.{wordsAt}
 use Rattle.turns.specs.Spans.{Spans}
 use Rattle.turns.specs.Turn.{live, passIn, Phase, stepOf, sums}
-use Rattle.turns.specs.declared.span.Span.{Span}
+use Rattle.turns.specs.declared.columns.Columns.{Columns}
 use Rattle.turns.specs.declared.turn.Turn.{Turn}
 use Rattle.cells.specs.Work.{cStart, newC, adding}
 use Rattle.cells.specs.Rows.{Row, Rows, Done}
@@ -72,7 +72,7 @@ added-cell algebra n l i j word =
     rw (u, v)
 
 -- One row: the cell that starts, then the span of those that add.
-module _ {algebra : Algebra} {n count i : ℕ} {s : Turn} {r : Span} {l l₁ l₂ : List ℕ} (row : Row n count i s l)
+module _ {algebra : Algebra} {n count i : ℕ} {s : Turn} {r : Columns} {l l₁ l₂ : List ℕ} (row : Row n count i s l)
     (begun : Begun algebra count (i * n) s l l₁) (span : Spans n (sums count) (stepOf n s) r)
     (adds : Spanned (added algebra (n * n) l₁) l₁ (i * n + r .from) (i * n + r .to) l₂) where
   not-begun : (p : ℕ) → (i * n ≤ p → p < i * n + n → ⊥) → getD l₁ p 0 ≡ getD l p 0

@@ -11,7 +11,7 @@ use Rattle.job_list.proofs.Fits.{area-fits}
 use Rattle.memory.proofs.Geometry.{row-fits}
 use Rattle.turns.proofs.Geometry.{pass-least, rows-fit}
 use Rattle.turns.specs.Spans.{Spans}
-use Rattle.turns.specs.declared.span.Span.{Span}
+use Rattle.turns.specs.declared.columns.Columns.{Columns}
 use Rattle.turns.specs.declared.turn.Turn.{Turn}
 use Rattle.cells.specs.Rows.{Row, Rows}
 
@@ -26,7 +26,7 @@ module _ {n count i : ℕ} {s : Turn} {l : List ℕ} (row : Row n count i s l) w
   pub point-inside : i * n + s .point < length l
   point-inside = omega (arith, row .below, row .long, row-fits (row .row))
 
-  module _ {test : ℕ → Bool} {u : ℕ} {r : Span} (span : Spans n test u r) where
+  module _ {test : ℕ → Bool} {u : ℕ} {r : Columns} (span : Spans n test u r) where
     pub span-order : i * n + r .from ≤ i * n + r .to
     span-order = omega (arith, span .order)
 

@@ -11,11 +11,11 @@ use lib.Seq.{getD-set-same, getD-set-other}
 use mir.Syntax.{w64}
 use mir.Val.{Fits}
 use Rattle.turns.proofs.Spans.{has-in, has-out}
-use Rattle.turns.specs.declared.span.Span.{Span}
+use Rattle.turns.specs.declared.columns.Columns.{Columns}
 use Rattle.cells.specs.Settled.{Took}
 
 -- The places of a column that the span has, of a row in planes of an area.
-module _ (asked : Bool) (span : Span) (area at j : ℕ) (told : asked ≡ (leb (span .from) j && ltb j (span .to))) (so : asked ≡ true)
+module _ (asked : Bool) (span : Columns) (area at j : ℕ) (told : asked ≡ (leb (span .from) j && ltb j (span .to))) (so : asked ≡ true)
     (row : at + span .to ≤ area) (most : area ≤ 1024) where
   below : at + j < area
   below = omega (arith, has-in asked (span .from) j (span .to) told so)
@@ -41,7 +41,7 @@ module _ (asked : Bool) (span : Span) (area at j : ℕ) (told : asked ≡ (leb (
 
 pub ruleset places = (place-room, place-bytes, place-inside, plane-room, plane-bytes, plane-inside)
 
-module _ {plane at : ℕ} {span : Span} {l : List ℕ} where
+module _ {plane at : ℕ} {span : Columns} {l : List ℕ} where
   pub takes : {asked : Bool} {j : ℕ} → asked ≡ (leb (span .from) j && ltb j (span .to)) → asked ≡ true → plane + (at + j) < length l
       → Took (λ m. m) j plane at span l (set l (plane + (at + j)) (getD l (at + j) 0))
   takes {asked} {j} told so inside =

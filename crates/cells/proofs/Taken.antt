@@ -14,14 +14,14 @@ use Rattle.turns.proofs.Spans.{span-in, span-out, digits-here, digits-behind}
 use Rattle.turns.specs.Layout.{wordsAt}
 use Rattle.turns.specs.Spans.{Spans}
 use Rattle.turns.specs.Turn.{live, stepOf, sums}
-use Rattle.turns.specs.declared.span.Span.{Span}
+use Rattle.turns.specs.declared.columns.Columns.{Columns}
 use Rattle.turns.specs.declared.turn.Turn.{Turn}
 use Rattle.cells.specs.Work.{taking}
 use Rattle.cells.specs.Rows.{Row, Done}
 use Rattle.cells.specs.Settled.{Took, Column}
 
 -- The words of a plane after a store in a span of a row.
-module _ {f : ℕ → ℕ} {x plane at n u : ℕ} {test : ℕ → Bool} {span : Span} {l l′ : List ℕ}
+module _ {f : ℕ → ℕ} {x plane at n u : ℕ} {test : ℕ → Bool} {span : Columns} {l l′ : List ℕ}
     (took : Took f x plane at span l l′) (spans : Spans n test u span) where
   off : (p : ℕ) → (plane + at ≤ p → p < plane + at + n → ⊥) → getD l′ p 0 ≡ getD l p 0
   off p g = took .kept p (λ j d e h q. g (omega arith) (omega (arith, spans .within)))
@@ -45,7 +45,7 @@ same-test x y z w f g = go (ℕ-discrete x y)
     go (yes d) = eq-eqb x y d ∙ sym (eq-eqb z w (f d))
     go (no d) = ne-eqb x y d ∙ sym (ne-eqb z w (λ e. d (g e)))
 
-module _ {n count i col : ℕ} {s : Turn} {moved summed : Span} {l l₁ l₂ l₃ : List ℕ} (row : Row n count i s l)
+module _ {n count i col : ℕ} {s : Turn} {moved summed : Columns} {l l₁ l₂ l₃ : List ℕ} (row : Row n count i s l)
     (moves : Spans n (live count) (stepOf n s) moved) (adds : Spans n (sums count) (stepOf n s) summed)
     (own : Took (λ j. 2 * j) (s .point) (n * n) (i * n) moved l l₁)
     (own-behind : Took (λ j. 2 * j) (s .point + n) (n * n) (i * n) moved l₁ l₂)

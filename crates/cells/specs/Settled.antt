@@ -10,7 +10,7 @@ use Rattle.semiring.specs.declared.Algebra.{Algebra}
 use Rattle.systolic.specs.Cell.{Cell}
 use Rattle.turns.specs.Turn.{live, begins, passIn, Phase, stepOf}
 use Rattle.turns.specs.Layout.{wordsAt}
-use Rattle.turns.specs.declared.span.Span.{Span}
+use Rattle.turns.specs.declared.columns.Columns.{Columns}
 use Rattle.turns.specs.declared.turn.Turn.{Turn}
 use Rattle.cells.specs.Work.{worked}
 
@@ -25,7 +25,7 @@ pub record Begun (algebra : Algebra) (count at : ℕ) (s : Turn) (old new : List
   pub kept : (p : ℕ) → (p ≡ at + s .point → begins count (s .pass) ≡ true → ⊥) → getD new p 0 ≡ getD old p 0
 
 -- The plane that is `plane` words after c has taken c in the columns j of a span with f j ≡ x, of the row at place `at`.
-pub record Took (f : ℕ → ℕ) (x plane at : ℕ) (span : Span) (old new : List ℕ) : Type 0 where
+pub record Took (f : ℕ → ℕ) (x plane at : ℕ) (span : Columns) (old new : List ℕ) : Type 0 where
   pub size : length new ≡ length old
   pub put : (j : ℕ) → span .from ≤ j → j < span .to → f j ≡ x → getD new (plane + (at + j)) 0 ≡ getD old (at + j) 0
   pub kept : (p : ℕ) → ((j : ℕ) → span .from ≤ j → j < span .to → f j ≡ x → p ≡ plane + (at + j) → ⊥) → getD new p 0 ≡ getD old p 0

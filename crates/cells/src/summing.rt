@@ -11,7 +11,7 @@ use semiring::Algebra;
 use semiring::none;
 use semiring::product;
 use semiring::sum;
-use turns::Span;
+use turns::Columns;
 use turns::Turn;
 use turns::begins;
 use turns::sums;
@@ -50,7 +50,7 @@ fn add_row(algebra: Algebra, n: usize, count: usize, i: usize, s: Turn, planes: 
     ensures { λ _. ⌜ Done (adding algebra count) n (stepOf n s + i) (now (planes .entry)) i (i + 1) (now (planes .exit)) ⌝ }
 {
     let at = i * n;
-    let summed = Span::summed(n, count, s);
+    let summed = Columns::summed(n, count, s);
     let left = summed.from;
     let right = summed.to;
     begin(algebra, count, at, s, planes);

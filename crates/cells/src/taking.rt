@@ -7,11 +7,11 @@ ghost use Rattle.turns.specs.Layout.{Lent};
 ghost use Rattle.cells.specs.Work.{taking};
 ghost use Rattle.cells.specs.Rows.{Row, Done};
 ghost use Rattle.cells.specs.Settled.{Took, Column};
-use turns::Span;
+use turns::Columns;
 use turns::Turn;
 
 // The plane that is `plane` words after c takes c in column j of the row at `at`, where a span has j.
-fn put(area: usize, plane: usize, at: usize, j: usize, span: Span, planes: &mut [u16])
+fn put(area: usize, plane: usize, at: usize, j: usize, span: Columns, planes: &mut [u16])
     requires { ⌜ (area ≤ 1024) × (plane ≤ 2 * area) × (at + span .to ≤ area) × (length (now planes) ≡ 3 * area) ⌝ }
     ensures { λ _. ⌜ Took (λ m. m) j plane at span (now (planes .entry)) (now (planes .exit)) ⌝ }
 {
@@ -22,7 +22,7 @@ fn put(area: usize, plane: usize, at: usize, j: usize, span: Span, planes: &mut 
 }
 
 // a takes the new c in the column that is half of `twice`.
-fn own(area: usize, at: usize, twice: usize, moved: Span, planes: &mut [u16])
+fn a_takes(area: usize, at: usize, twice: usize, moved: Columns, planes: &mut [u16])
     requires { ⌜ (area ≤ 1024) × (at + moved .to ≤ area) × (length (now planes) ≡ 3 * area) ⌝ }
     ensures { λ _. ⌜ Took (λ j. 2 * j) twice area at moved (now (planes .entry)) (now (planes .exit)) ⌝ }
 {
@@ -50,10 +50,10 @@ fn take(n: usize, count: usize, i: usize, s: Turn, planes: &mut [u16])
     let area = n * n;
     let at = i * n;
     let k = s.point;
-    let moved = Span::moved(n, count, s);
-    let summed = Span::summed(n, count, s);
-    own(area, at, k, moved, planes);
-    own(area, at, k + n, moved, planes);
+    let moved = Columns::moved(n, count, s);
+    let summed = Columns::summed(n, count, s);
+    a_takes(area, at, k, moved, planes);
+    a_takes(area, at, k + n, moved, planes);
     let j = column(n, i, k);
     put(area, 2 * area, at, j, summed, planes);
 }

@@ -4,12 +4,13 @@ use native.Mathlib.Nat.{div-add-mod', div-lt-iff-lt-mul, mod-lt, not-suc-le-zero
 use native.Mathlib.Numerals.{add-one}
 use native.Mathlib.Omega.{arith}
 use native.Mathlib.Decide.{decLt}
-use mathlib.Core.Path.{_≡_, refl, ap, _∙_}
+use mathlib.Core.Path.{_≡_, refl, sym, ap, _∙_}
 use mathlib.Core.List.{List, [], _∷_}
 use lib.ListN.{length, getD, drop, length-take, length-drop}
 use lib.Seq.{getD-take, getD-drop}
 use lib.Arith.{digits-lt}
 use Rattle.job_list.specs.Jobs.{Jobs, Entry, size, offset, wordsOf, partOf, place}
+use Rattle.job_list.specs.claims.Places.{Row-by-row}
 use Rattle.memory.proofs.Geometry.{same-digits}
 
 pub offset-none : (sizes : List ℕ) → offset sizes 0 ≡ 0
@@ -55,6 +56,9 @@ part-there sizes weights q r h =
     let taken = length-take (n * n) (drop at weights) in
     let dropped = length-drop at weights in
     (omega arith, omega arith)
+
+pub row-by-row : Row-by-row
+row-by-row J words q i k row column = sym (part-word (J .sizes) words q (i * size J q + k) (digits-lt row column))
 
 offset-same : (sizes : List ℕ) (q r q′ r′ : ℕ) → q < length sizes → q′ < length sizes
     → r < getD sizes q 0 * getD sizes q 0 → r′ < getD sizes q′ 0 * getD sizes q′ 0

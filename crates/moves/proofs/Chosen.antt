@@ -5,10 +5,10 @@ use native.Mathlib.Decide.{decLt}
 use mathlib.Core.Path.{_≡_, refl}
 use mathlib.Core.Bool.{Bool, true, false, cond}
 use Rattle.turns.specs.Spans.{Spans}
-use Rattle.turns.specs.declared.span.Span.{Span}
+use Rattle.turns.specs.declared.columns.Columns.{Columns}
 
 -- Cell j is inside the span, before it or after it.
-pub in-span : {n v j w x y : ℕ} {test : ℕ → Bool} {r : Span} (pass k : ℕ) → Spans n test v r → j < n → k < n → n * pass + k + j ≡ v
+pub in-span : {n v j w x y : ℕ} {test : ℕ → Bool} {r : Columns} (pass k : ℕ) → Spans n test v r → j < n → k < n → n * pass + k + j ≡ v
     → (r .from ≤ j → j < r .to → w ≡ x) → (j < r .from → w ≡ y) → (r .to ≤ j → w ≡ y) → w ≡ cond (test pass) x y
 in-span {j = j} {w} {x} {y} {test} {r} pass k span h b step inside before after = go (decLt j (r .from)) (decLt j (r .to))
   where

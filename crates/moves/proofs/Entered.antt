@@ -20,7 +20,7 @@ use Rattle.moves.proofs.Stored.{stored-none, column-one, same-row}
 use Rattle.turns.specs.Spans.{Spans}
 use Rattle.moves.specs.Stored.{Stored}
 use Rattle.turns.specs.Turn.{live, Phase, stepOf}
-use Rattle.turns.specs.declared.span.Span.{Span}
+use Rattle.turns.specs.declared.columns.Columns.{Columns}
 use Rattle.turns.specs.declared.turn.Turn.{Turn}
 
 -- The loop of the left edge, where it has come to row i.
@@ -84,11 +84,11 @@ part-copied at w from w′ source {l} {m} fits fits′ same copied = record {
     long = copied .size ∙ part-length at w l fits
 
 -- Whatever was stored, the memory kept its length: the row's span is inside it.
-pub top-fits : {n count : ℕ} {s : Turn} {r : Span} {P : ℕ → Type 0} {place value : ℕ → ℕ} {old l : List ℕ} → Lent n count s old
+pub top-fits : {n count : ℕ} {s : Turn} {r : Columns} {P : ℕ → Type 0} {place value : ℕ → ℕ} {old l : List ℕ} → Lent n count s old
     → Spans n (live count) (stepOf n s) r → Stored P place value old l → 2 * (n * n) + r .to ≤ length l
 top-fits {n} lent span stored = omega (arith, stored .size, span .within, lent .long, square n)
 
-module _ {n count : ℕ} {s : Turn} {r : Span} {edges old l₁ : List ℕ} (lent : Lent n count s old)
+module _ {n count : ℕ} {s : Turn} {r : Columns} {edges old l₁ : List ℕ} (lent : Lent n count s old)
     (edged : WithEdges n old edges) (span : Spans n (live count) (stepOf n s) r)
     (stored : LeftEntered n (r .from) (r .to) (take (2 * n - n) (drop n edges)) old l₁) where
   -- the words of c and b are not stored to

@@ -13,7 +13,7 @@ use Rattle.moves.proofs.Slid.{row-slid}
 use Rattle.turns.proofs.Geometry.{early-step, pass-least}
 use Rattle.turns.specs.Spans.{Spans}
 use Rattle.turns.specs.Turn.{live, At, stepOf}
-use Rattle.turns.specs.declared.span.Span.{Span}
+use Rattle.turns.specs.declared.columns.Columns.{Columns}
 use Rattle.turns.specs.declared.turn.Turn.{Turn}
 
 -- On the tick of step u the rows from i on are done; s is the turn of the first cell of the row above them.
@@ -63,7 +63,7 @@ module _ {n count u i : ℕ} {old l : List ℕ} {s : Turn} (c : Sliding n count 
   pub some-pass : 1 ≤ s .pass
   some-pass = pass-least n (s .pass) (s .point) (c .turn .below) (omega (arith, c .turn .at, c .early, c .within))
 
-  module _ {r : Span} (more : 0 < i) (span : Spans n (live count) (stepOf n s) r) where
+  module _ {r : Columns} (more : 0 < i) (span : Spans n (live count) (stepOf n s) r) where
     row : i - 1 < n
     row = omega (arith, c .within)
 

@@ -13,7 +13,7 @@ use Rattle.moves.proofs.Chosen.{in-span, chosen}
 use Rattle.turns.proofs.Geometry.{rows-apart}
 use Rattle.turns.specs.Spans.{Spans}
 use Rattle.turns.specs.Turn.{live, Phase}
-use Rattle.turns.specs.declared.span.Span.{Span}
+use Rattle.turns.specs.declared.columns.Columns.{Columns}
 
 -- The words of cell (i, j) in a and in b.
 abbrev A : ℕ → ℕ → ℕ → ℕ
@@ -27,14 +27,14 @@ abbrev taken : Bool → ℕ → List ℕ → ℕ → ℕ
 taken steps d l p = cond steps (getD l (p - d) 0) (getD l p 0)
 
 -- Word p, in column j of a row i whose span has moved on by d places.
-row-word : (d p : ℕ) {n u v i j pass k at end : ℕ} {test : ℕ → Bool} {r : Span} {l l′ : List ℕ} → Spans n test v r → v + i ≡ u
+row-word : (d p : ℕ) {n u v i j pass k at end : ℕ} {test : ℕ → Bool} {r : Columns} {l l′ : List ℕ} → Spans n test v r → v + i ≡ u
     → Phase n u i j pass k → j < n → Moved d l at end l′ → at + j ≡ p + r .from → end + j ≡ p + r .to
     → getD l′ p 0 ≡ taken (test pass) d l p
 row-word d p {pass = pass} {k} span turn on h moved e f =
     in-span pass k span h (on .below) (omega (arith, on .at))
     (λ x y. moved .inside p (omega arith) (omega arith)) (λ x. moved .before p (omega arith)) (λ x. moved .after p (omega arith))
 
-module _ {n count u v i : ℕ} {old l l₁ l₂ : List ℕ} {r : Span} (row : i < n) (turn : v + i ≡ u)
+module _ {n count u v i : ℕ} {old l l₁ l₂ : List ℕ} {r : Columns} (row : i < n) (turn : v + i ≡ u)
     (slid : Slid n count u old (suc i) l) (span : Spans n (live count) v r)
     (moved : Moved 1 l (n * n + i * n + r .from) (n * n + i * n + r .to) l₁)
     (lowered : Moved n l₁ (n * n + i * n + n * n + r .from) (n * n + i * n + n * n + r .to) l₂) where

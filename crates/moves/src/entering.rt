@@ -4,7 +4,7 @@ ghost use Rattle.moves.specs.Edges.{LeftEntered, Entered};
 ghost use Rattle.turns.specs.Layout.{Lent};
 ghost use Rattle.moves.specs.Lent.{WithEdges, LeftEdged};
 use memory::copy;
-use turns::Span;
+use turns::Columns;
 use turns::Turn;
 
 // The left edge's words into the first column of a: rows from ≤ i < to.
@@ -24,7 +24,7 @@ pub fn enter(n: usize, count: usize, head: Turn, edges: &[u16], planes: &mut [u1
     requires { ⌜ Lent n count head (now planes) × WithEdges n (now planes) (now edges) ⌝ }
     ensures { λ _. ⌜ Entered n count (stepOf n head) (now (edges .entry)) (now (planes .entry)) (now (planes .exit)) ⌝ }
 {
-    let span = Span::moved(n, count, head);
+    let span = Columns::moved(n, count, head);
     let from = span.from;
     let to = span.to;
     let both = 2 * n;

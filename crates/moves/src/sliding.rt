@@ -3,7 +3,7 @@ ghost use Rattle.turns.specs.Turn.{stepOf};
 ghost use Rattle.turns.specs.Layout.{Lent};
 ghost use Rattle.moves.specs.Moved.{Movable, Moved};
 ghost use Rattle.moves.specs.Slid.{Slid};
-use turns::Span;
+use turns::Columns;
 use turns::Turn;
 use turns::live;
 
@@ -41,7 +41,7 @@ fn slide_rows(n: usize, count: usize, head: Turn, planes: &mut [u16])
     let mut i = n;
     while 0 < i {
         i -= 1;
-        let moved = Span::moved(n, count, s);
+        let moved = Columns::moved(n, count, s);
         let from = moved.from;
         let to = moved.to;
         let a = area + i * n;

@@ -74,12 +74,3 @@ pub fn print_whole(text: &[u8], room: &mut [u8; PAGE_BYTES]) -> usize
 {
     print_sheet(text, room)
 }
-
-// `print_sheet` for hosts in other languages.
-#[no_mangle]
-pub extern "C" fn sheet_print(text: &[u8], page: &mut [u8]) -> usize
-    ensures outcome { λ r. ⌜ r ≡ min (length (now (page .entry))) (length (sheetOf (now (text .entry)))) ⌝ }
-    ensures memory { λ _. ⌜ now (page .exit) ≡ overwritten (sheetOf (now (text .entry))) (now (page .entry)) ⌝ }
-{
-    print_sheet(text, page)
-}

@@ -2,8 +2,8 @@
 ghost use Rattle.state_ticks.specs.inner.Runnable.{Runnable, RunLeft};
 use state_header::Header;
 use state_header::store_header;
+use ticks::Ticks;
 use ticks::advance;
-use turns::Span;
 
 // It makes `made` ticks.
 pub fn proceed(
@@ -25,7 +25,7 @@ pub fn proceed(
     let to = from + made as usize;
     advance(
         n,
-        Span { from: from, to: to },
+        Ticks { from: from, to: to },
         algebras,
         sizes,
         weights,

@@ -10,4 +10,17 @@ use Rattle.systolic.specs.claims.Cards.{StateCards}
 
 pub state-cards : StateCards
 unfolding listOf any offset algebraOf aboveBefore cellAfter planesAfter emitted emittedRows ticked ticks ranOn refusedRun ran runs
-state-cards = record { started = refl; two-ticks = refl; reach-ends = refl; distance-begins = refl }
+state-cards = record {
+  started = refl;
+  two-ticks = refl;
+  reach-ends = refl;
+  distance-begins = refl;
+  padded = refl;
+  nose-to-tail = refl;
+  all-ticks = refl;
+  words = refl;
+  lent-summed = refl;
+  lent-sent = refl;
+  lent-kept = refl;
+  lent-words = refl;
+}

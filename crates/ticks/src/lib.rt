@@ -2,4 +2,5 @@
 mod sweep;
 mod ticks;
 
+pub use ticks::Ticks;
 pub use ticks::advance;

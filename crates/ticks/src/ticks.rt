@@ -11,7 +11,6 @@ use feeding::fill;
 use stage::Stage;
 use stage::mark;
 use stage::stage_at;
-use turns::Span;
 
 // The tick of a stage. `edges` has room for the words that come in at the top and at the left.
 fn tick(
@@ -40,10 +39,16 @@ fn tick(
     emit(n, head, stage.back, planes, results);
 }
 
-// The ticks from ≤ t < to of a span. The planes may hold any words.
+// The ticks from ≤ t < to.
+pub struct Ticks {
+    pub from: usize,
+    pub to: usize,
+}
+
+// Those ticks, one after another. The planes may hold any words.
 pub fn advance(
     n: usize,
-    span: Span,
+    span: Ticks,
     algebras: &[u16],
     sizes: &[u16],
     weights: &[u16],

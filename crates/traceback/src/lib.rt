@@ -1,16 +1,12 @@
-// A way traced back from a closed table: the call on words, and for other languages.
+// A way traced back from a closed table.
 ghost use mathlib.Core.Path.{_≡_};
 ghost use Rattle.ways.specs.Given.{WayGiven};
 ghost use Rattle.traceback.specs.WayAnswer.{wayNumber, wayLength};
-
-mod host;
-
 use checks::Checked;
 use checks::Reason;
 use checks::check;
 use checks::reason_number;
 use closed::is_closed;
-pub use host::traceback_way;
 use levels::find;
 use semiring::none;
 

@@ -12,7 +12,7 @@ use Rattle.memory.proofs.Any.{both-true}
 use Rattle.memory.proofs.Geometry.{same-digits}
 use Rattle.turns.specs.declared.turn.Turn.{Turn}
 use Rattle.turns.proofs.Geometry.{pass-before}
-use Rattle.turns.specs.declared.span.Span.{Span}
+use Rattle.turns.specs.declared.columns.Columns.{Columns}
 use Rattle.turns.specs.Spans.{Spans, Parted, Banded}
 
 -- A choice of two numbers, of which one is ruled out.
@@ -28,7 +28,7 @@ one-of : (x : Bool) (m y z : ℕ) (P : ℕ → Type 0) → m ≡ cond x y z → 
 one-of true m y z P e f g = rw e f
 one-of false m y z P e f g = rw e g
 
-module _ (n : ℕ) (test : ℕ → Bool) (s : Turn) (r : Span) (below : s .point < n) (least : 1 ≤ s .pass)
+module _ (n : ℕ) (test : ℕ → Bool) (s : Turn) (r : Columns) (below : s .point < n) (least : 1 ≤ s .pass)
     (from : r .from ≡ cond (test (s .pass)) 0 (s .point + 1)) (to : r .to ≡ cond (test (s .pass - 1)) n (s .point + 1)) where
   here : (j pass k : ℕ) → j ≤ s .point → k < n → n * pass + k + j ≡ stepOf n s → test pass ≡ test (s .pass)
   here j pass k l b e =
@@ -78,7 +78,7 @@ module _ {n k : ℕ} {here behind : Bool} where
   pub parted-none : here ≡ false → behind ≡ false → Parted n k here behind (record { from = k + 1; to = k + 1 })
   parted-none e f = rw (e, f) (record { from = refl; to = refl })
 
-pub spans-told : {n : ℕ} {test : ℕ → Bool} {s : Turn} {r : Span} {here behind : Bool} → s .point < n → 1 ≤ s .pass
+pub spans-told : {n : ℕ} {test : ℕ → Bool} {s : Turn} {r : Columns} {here behind : Bool} → s .point < n → 1 ≤ s .pass
     → here ≡ test (s .pass) → behind ≡ test (s .pass - 1) → Parted n (s .point) here behind r → Spans n test (stepOf n s) r
 spans-told {n} {test} {s} {r} below least e f ends =
     spans-of n test s r below least (rw (← e) (ends .from)) (rw (← f) (ends .to))
@@ -108,7 +108,7 @@ pub sums-early : (count pass : ℕ) → pass % 4 ≢ 3 → live count pass ≡ s
 sums-early count pass e = rw (lt-ltb (pass % 4) 3 (omega arith)) (and-true (live count pass))
 
 -- A column inside or outside.
-module _ {n : ℕ} {test : ℕ → Bool} {u : ℕ} {r : Span} (span : Spans n test u r) (j pass k : ℕ) (b : j < n) (h : k < n) (e : n * pass + k + j ≡ u) where
+module _ {n : ℕ} {test : ℕ → Bool} {u : ℕ} {r : Columns} (span : Spans n test u r) (j pass k : ℕ) (b : j < n) (h : k < n) (e : n * pass + k + j ≡ u) where
   pub span-in : test pass ≡ true → (r .from ≤ j) × (j < r .to)
   span-in f = (go (decLt j (r .from)), go′ (decLt j (r .to)))
     where

@@ -1,10 +1,11 @@
 -- What demand 3 gives together with demand 2, and what of a list of runs one job's results depend on.
-use Prim.Native.Nat.{ℕ, _<_}
+use Prim.Native.Nat.{ℕ, _+_, _-_, _*_, _<_}
 use mathlib.Core.Path.{_≡_}
 use mathlib.Core.List.{List}
 use lib.ListN.{length, getD}
+use Rattle.closure.specs.Elimination.{eliminated}
 use Rattle.closure.specs.claims.Demand.{Best}
-use Rattle.job_list.specs.Jobs.{Jobs, count, size, algebra, wordsOf, jobWeights, place, jobsOf}
+use Rattle.job_list.specs.Jobs.{Jobs, count, size, algebra, wordsOf, partOf, jobWeights, place, jobsOf}
 use Rattle.systolic.specs.Start.{startTests, stateAfterStart}
 use Rattle.systolic.specs.claims.Demand.{Call, Runs, runs}
 use Rattle.systolic.specs.Tick.{leaves}
@@ -15,6 +16,12 @@ pub record Past (J : Jobs) (q i k : ℕ) (after : Runs) : Type 0 where
   pub row : i < size J q
   pub column : k < size J q
   pub tick : leaves J q i k < after .made
+
+-- It is past wherever demand 3 says so, "if more than 4Nq + 4N - 1 + i + k ticks are made".
+abbrev pub Past-is : Type 0
+Past-is =
+    (J : Jobs) (q i k : ℕ) (after : Runs) → q < count J → i < size J q → k < size J q
+    → 4 * J .order * q + 4 * J .order - 1 + i + k < after .made → Past J q i k after
 
 -- The word of that entry.
 abbrev pub wordAt : Jobs → ℕ → ℕ → ℕ → Runs → ℕ
@@ -52,3 +59,15 @@ Own-words-only =
     (q q′ : ℕ) → algebra J q ≡ algebra J′ q′ → size J q ≡ size J′ q′ → jobWeights J q ≡ jobWeights J′ q′
     → (i k : ℕ) → Past J q i k after → Past J′ q′ i k after′
     → wordAt J q i k after ≡ wordAt J′ q′ i k after′)
+
+-- Once the last entry of a job has left, "its results are the same part of the results" as its weights are of the weights: the elimination's
+-- own words, row by row.
+abbrev pub Job-closed : Type 0
+Job-closed =
+    (algebras : List ℕ) (order : ℕ) (sizes weights state : List ℕ)
+    → startTests algebras order sizes weights state ≡ 0
+    → (calls : List Call) (results : List ℕ) → length results ≡ wordsOf sizes
+    → (let J = jobsOf algebras order sizes weights in
+    let after = startedRuns algebras order sizes weights state calls results in
+    (q : ℕ) → q < count J → 4 * order * q + 4 * order - 1 + 2 * (size J q - 1) < after .made
+    → partOf sizes (after .results) q ≡ eliminated (algebra J q) (size J q) (jobWeights J q))

@@ -11,20 +11,20 @@ use Rattle.cells.proofs.taking.take.Tie as tie
 b-requires : tie.Need-put-requires
 b-requires c κs =
     let start : tie.Start = search in
-    let first : tie.After-own = search in
-    let second : tie.After-own2 = search in
-    (area-most (start .pre), omega arith, search (span-end (start .pre)), second .own2 .ensures .size ∙ first .own .ensures .size ∙ start .pre .long)
+    let first : tie.After-a-takes = search in
+    let second : tie.After-a-takes2 = search in
+    (area-most (start .pre), omega arith, search (span-end (start .pre)), second .a-takes2 .ensures .size ∙ first .a-takes .ensures .size ∙ start .pre .long)
 
 returns : tie.Need-returns
 returns c =
     let last : tie.After-put = search in
     let turned : tie.After-column = search in
-    let second : tie.After-own2 = search in
-    let first : tie.After-own = search in
+    let second : tie.After-a-takes2 = search in
+    let first : tie.After-a-takes = search in
     let adds : tie.After-summed = search in
     let moves : tie.After-moved = search in
     let start : tie.Start = search in
-    row-took (start .pre) (moves .moved .ensures) (adds .summed .ensures) (first .own .ensures) (second .own2 .ensures)
+    row-took (start .pre) (moves .moved .ensures) (adds .summed .ensures) (first .a-takes .ensures) (second .a-takes2 .ensures)
     (turned .column .ensures) (last .put .ensures)
 
 pub take-spec : {M : Type 1} → statement M

@@ -1,0 +1,2 @@
+-- What is claimed of words in bytes.
+pub mod Cards

@@ -1,0 +1,3 @@
+pub mod ArrayCalls
+pub mod TracebackCalls
+pub mod Kept

@@ -1,0 +1,27 @@
+-- `traceback_way` hands on what `way` answered.
+use borrow.Author.Needs.{needs}
+use Rattle.host.proofs.TracebackCalls.{host-points, host-refused}
+use Rattle.host.proofs.traceback_calls.traceback_way.Statement.{statement}
+use Rattle.host.proofs.traceback_calls.traceback_way.Tie as tie
+
+pub traceback-way-spec : {M : Type 1} → statement M
+traceback-way-spec =
+    tie.close
+    (tie.spec
+    (λ c κs. search needs)
+    -- a way
+    (λ c. search needs)
+    (λ c. search needs)
+    (λ c. search host-points)
+    -- the elimination's checks
+    (λ c. search needs)
+    (λ c κs. search needs)
+    (λ c. search needs)
+    (λ c. search host-refused)
+    -- unfit, and no way
+    (λ c. search needs)
+    (λ c. search needs)
+    (λ c. search host-refused)
+    (λ c. search needs)
+    (λ c. search needs)
+    (λ c. search host-refused))

@@ -1,0 +1,2 @@
+pub mod ArrayCalls
+pub mod claims

@@ -1,0 +1,2 @@
+-- What is claimed of a list's words.
+pub mod Places
