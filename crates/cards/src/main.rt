@@ -22,6 +22,7 @@ fn main() {
     tell(b"B9: ", listing_card::listing());
     tell(b"B10: ", array_cards::two_jobs());
     tell(b"B11: ", limit_cards::all());
+    tell(b"elimination, B3 in bytes: ", table_cards::distance_bytes());
     tell(b"elimination, last pass: ", table_cards::last_pass());
     tell(
         b"elimination, 65534 in steepest: ",

@@ -2,6 +2,8 @@
 use memory::same_words;
 use paths::eliminate;
 use paths::number;
+use paths::paths_eliminate;
+use text::equal;
 
 pub fn closes(
     algebra: u32,
@@ -15,6 +17,21 @@ pub fn closes(
         return false;
     }
     same_words(result, expected)
+}
+
+// The same by the call on bytes, for a host in C.
+pub fn closes_bytes(
+    algebra: u32,
+    size: usize,
+    weights: &[u8],
+    result: &mut [u8],
+    expected: &[u8],
+) -> bool {
+    let answer = paths_eliminate(algebra, size, weights, result);
+    if answer != 0 {
+        return false;
+    }
+    equal(result, expected)
 }
 
 pub fn one_point() -> bool {
@@ -31,6 +48,15 @@ pub fn distance() -> bool {
     let links = [0u16, 4, 9, 65535, 0, 3, 1, 65535, 0];
     let mut result = [9u16; 9];
     closes(1, 3, &links, &mut result, &[0u16, 4, 7, 4, 0, 3, 1, 5, 0])
+}
+
+// B3 in bytes, two a word, low byte first.
+pub fn distance_bytes() -> bool {
+    let f = 255u8;
+    let links = [0u8, 0, 4, 0, 9, 0, f, f, 0, 0, 3, 0, 1, 0, f, f, 0, 0];
+    let closed = [0u8, 0, 4, 0, 7, 0, 4, 0, 0, 0, 3, 0, 1, 0, 5, 0, 0, 0];
+    let mut result = [9u8; 18];
+    closes_bytes(1, 3, &links, &mut result, &closed)
 }
 
 pub fn steepest() -> bool {

@@ -20,6 +20,12 @@ pub fn tell(card: &[u8], passed: bool) {
     io::write_all(STDOUT_FILENO, &verdict(passed));
 }
 
+// Of a card that expects what is wrong: it passes where it was told wrong.
+pub fn tell_wrong(card: &[u8], passed: bool) {
+    io::write_all(STDOUT_FILENO, b"told wrong, as it must be: ");
+    tell(card, !passed);
+}
+
 // Whether the page's first bytes are the text.
 pub fn begins(page: &[u8], text: &[u8]) -> bool
     ensures { λ r. ⌜ r ≡ same (take (length (now (text .entry))) (now (page .entry))) (now (text .entry)) ⌝ }
