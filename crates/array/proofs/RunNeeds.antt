@@ -9,6 +9,7 @@ use lib.Dec.{eqb}
 use borrow.Author.Tests.{eqb-true}
 use Rattle.memory.proofs.Any.{both-false}
 use Rattle.refusals.proofs.First.{First, hit, skip, clear, answers, Clear, same, differ, told, same-as, differs-from, equal}
+use Rattle.refusals.specs.declared.Reason.the-variants.{StateUnfit}
 use Rattle.systolic.specs.State.{orderOf, countOf, total}
 use Rattle.job_list.specs.Jobs.{wordsOf}
 use Rattle.job_list.specs.Fits.{anyOutside, Small}
@@ -19,7 +20,7 @@ use Rattle.state_header.specs.declared.Header.{Header}
 use Rattle.state_header.specs.declared.HeaderRead.{HeaderRead}
 use Rattle.state_header.specs.declared.HeaderRead.the-variants.{Unfit}
 use Rattle.array.specs.declared.running.RunAnswer.{RunAnswer}
-use Rattle.array.specs.declared.running.RunAnswer.the-variants.{Made, StateUnfit}
+use Rattle.array.specs.declared.running.RunAnswer.the-variants.{Made, Refused}
 use Rattle.state_header.specs.inner.Header.{Told}
 use Rattle.array.specs.RunAnswer.{runNumber, runMade, Answered}
 use Rattle.state_ticks.specs.inner.Runnable.{Runnable, RunLeft}
@@ -28,9 +29,9 @@ use Rattle.array.proofs.Answers.{HeaderFits, run-turned, run-accepted, 
 
 -- the state's header was not read
 pub unfit : (state algebras sizes weights : List ℕ) (allowance : ℕ) (scratch results : List ℕ) (read : HeaderRead) → Told read state → read ≡ Unfit
-    → Answered StateUnfit state scratch results (ran state algebras sizes weights allowance scratch results)
+    → Answered (Refused StateUnfit) state scratch results (ran state algebras sizes weights allowance scratch results)
 unfit state algebras sizes weights allowance scratch results read is not =
-    run-turned state algebras sizes weights allowance scratch results StateUnfit 9 refl refl (unfit-tests state algebras sizes weights scratch results (sym (is .is) ∙ not))
+    run-turned state algebras sizes weights allowance scratch results (Refused StateUnfit) 9 refl refl (unfit-tests state algebras sizes weights scratch results (sym (is .is) ∙ not))
 
 -- the kinds of tests that Run makes
 pub ruleset run-tests = (same, differ, told, same-as, differs-from, neither)

@@ -9,6 +9,8 @@ use job_list::any_outside;
 use job_list::any_unknown;
 use job_list::words_before;
 use memory::clear;
+use refusals::Reason;
+use refusals::number;
 use state_header::HeaderRead;
 use state_header::read_header;
 use state_ticks::proceed;
@@ -16,14 +18,7 @@ use state_ticks::proceed;
 // What a call of run answers: the ticks made, or why it turned back.
 pub enum RunAnswer {
     Made(u16),
-    StateUnfit,
-    JobsDiffer,
-    AlgebraUnknown,
-    SizeOutside,
-    WeightsLength,
-    ScratchLength,
-    ResultsLength,
-    WordAbove,
+    Refused(Reason),
 }
 
 // Two lines: what comes in at the top and at the left.
@@ -56,34 +51,34 @@ pub fn run(
         (now (results .entry))) ⌝ }
 {
     let HeaderRead::Fit(header) = read_header(state) else {
-        return RunAnswer::StateUnfit;
+        return RunAnswer::Refused(Reason::StateUnfit);
     };
     let order = header.order as usize;
     let count = header.count as usize;
     if sizes.len() != count {
-        return RunAnswer::JobsDiffer;
+        return RunAnswer::Refused(Reason::JobsDiffer);
     }
     if algebras.len() != count {
-        return RunAnswer::JobsDiffer;
+        return RunAnswer::Refused(Reason::JobsDiffer);
     }
     if any_unknown(algebras) {
-        return RunAnswer::AlgebraUnknown;
+        return RunAnswer::Refused(Reason::AlgebraUnknown);
     }
     if any_outside(order, sizes) {
-        return RunAnswer::SizeOutside;
+        return RunAnswer::Refused(Reason::JobSizeOutside);
     }
     let words = words_before(sizes, sizes.len());
     if weights.len() != words {
-        return RunAnswer::WeightsLength;
+        return RunAnswer::Refused(Reason::WeightsLength);
     }
     if scratch.len() != scratch_words(order) {
-        return RunAnswer::ScratchLength;
+        return RunAnswer::Refused(Reason::ScratchLength);
     }
     if results.len() != words {
-        return RunAnswer::ResultsLength;
+        return RunAnswer::Refused(Reason::ResultLength);
     }
     if any_above(algebras, sizes, weights) {
-        return RunAnswer::WordAbove;
+        return RunAnswer::Refused(Reason::WordAbove);
     }
     let made = smaller(allowance, header.ticks_left());
     proceed(
@@ -106,14 +101,7 @@ pub fn run_number(answer: RunAnswer) -> u32
 {
     match answer {
         RunAnswer::Made(_) => 0,
-        RunAnswer::StateUnfit => 10,
-        RunAnswer::JobsDiffer => 11,
-        RunAnswer::AlgebraUnknown => 1,
-        RunAnswer::SizeOutside => 8,
-        RunAnswer::WeightsLength => 3,
-        RunAnswer::ScratchLength => 12,
-        RunAnswer::ResultsLength => 4,
-        RunAnswer::WordAbove => 5,
+        RunAnswer::Refused(reason) => number(reason),
     }
 }
 
@@ -123,13 +111,6 @@ pub fn ticks_made(answer: RunAnswer) -> u16
 {
     match answer {
         RunAnswer::Made(made) => made,
-        RunAnswer::StateUnfit => 0,
-        RunAnswer::JobsDiffer => 0,
-        RunAnswer::AlgebraUnknown => 0,
-        RunAnswer::SizeOutside => 0,
-        RunAnswer::WeightsLength => 0,
-        RunAnswer::ScratchLength => 0,
-        RunAnswer::ResultsLength => 0,
-        RunAnswer::WordAbove => 0,
+        RunAnswer::Refused(_) => 0,
     }
 }

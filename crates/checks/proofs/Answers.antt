@@ -10,20 +10,12 @@ use Rattle.semiring.specs.declared.Named.{Named}
 use Rattle.semiring.specs.declared.Named.the-variants.{Known, Unknown}
 use Rattle.closure.specs.Tests.{eliminationTable, eliminationTests}
 use Rattle.closure.proofs.Accepted.{Accepted, accepted as input}
-use Rattle.checks.specs.Reason.{reasonNumber}
+use Rattle.refusals.specs.Reason.{reasonNumber}
 use Rattle.checks.specs.inner.Checks.{Checks, checkedNumber}
 use Rattle.checks.specs.declared.Checked.{Checked}
 use Rattle.checks.specs.declared.Checked.the-variants.{Fit, Refused}
-use Rattle.checks.specs.declared.Reason.{Reason}
-use Rattle.checks.specs.declared.Reason.the-variants.{AlgebraUnknown, SizeOutside, LinksLength, TableLength, WordAbove}
-
--- No reason has the number 0.
-pub reason-some : (reason : Reason) → reasonNumber reason ≡ 0 → ⊥
-reason-some AlgebraUnknown e = omega arith
-reason-some SizeOutside e = omega arith
-reason-some LinksLength e = omega arith
-reason-some TableLength e = omega arith
-reason-some WordAbove e = omega arith
+use Rattle.refusals.specs.declared.Reason.{Reason}
+use Rattle.refusals.specs.declared.Reason.the-variants.{AlgebraUnknown}
 
 module _ {algebra n : ℕ} {w t : List ℕ} where
   turned : {reason : Reason} → reasonNumber reason ≡ eliminationTests (namedOf algebra) n w t → Checks (Refused reason) algebra n w t

@@ -1,2 +1,1 @@
-pub mod Reason
 pub mod inner

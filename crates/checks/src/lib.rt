@@ -1,20 +1,10 @@
 // The elimination's checks, which every call on words that is lent a table of links makes first.
-ghost use mathlib.Core.Path.{_≡_};
-ghost use Rattle.checks.specs.Reason.{reasonNumber};
 ghost use Rattle.checks.specs.inner.Checks.{Checks};
+use refusals::Reason;
 use semiring::Algebra;
 use semiring::Named;
 use semiring::from_number;
 use semiring::has_word_above;
-
-// Why the checks turn a call back. The second table is the result, or whatever the call has in its place.
-pub enum Reason {
-    AlgebraUnknown,
-    SizeOutside,
-    LinksLength,
-    TableLength,
-    WordAbove,
-}
 
 // What the checks found: nothing, and the algebra; or the first that applies.
 pub enum Checked {
@@ -22,7 +12,7 @@ pub enum Checked {
     Refused(Reason),
 }
 
-// Tests 1 to 5 of document 01, with 4 for the second table.
+// Tests 1 to 5 of document 01, with 4 for the second table: the result, or whatever the call has in its place.
 pub fn check(algebra: u32, size: usize, links: &[u16], table: &[u16]) -> Checked
     ensures { λ r. ⌜ Checks r algebra size (now (links .entry)) (now (table .entry)) ⌝ }
 {
@@ -36,26 +26,13 @@ pub fn check(algebra: u32, size: usize, links: &[u16], table: &[u16]) -> Checked
         return Checked::Refused(Reason::SizeOutside);
     }
     if links.len() != size * size {
-        return Checked::Refused(Reason::LinksLength);
+        return Checked::Refused(Reason::WeightsLength);
     }
     if table.len() != size * size {
-        return Checked::Refused(Reason::TableLength);
+        return Checked::Refused(Reason::ResultLength);
     }
     if has_word_above(a, links) {
         return Checked::Refused(Reason::WordAbove);
     }
     Checked::Fit(a)
-}
-
-// The number of document 01 for a reason.
-pub fn reason_number(reason: Reason) -> u32
-    ensures { λ r. ⌜ r ≡ reasonNumber reason ⌝ }
-{
-    match reason {
-        Reason::AlgebraUnknown => 1,
-        Reason::SizeOutside => 2,
-        Reason::LinksLength => 3,
-        Reason::TableLength => 4,
-        Reason::WordAbove => 5,
-    }
 }

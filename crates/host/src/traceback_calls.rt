@@ -1,6 +1,6 @@
 // A way traced back, for other languages.
 ghost use Rattle.ways.specs.Given.{WayGivenHost};
-use checks::reason_number;
+use refusals::number;
 use traceback::WayAnswer;
 use traceback::way;
 
@@ -26,13 +26,7 @@ pub extern "C" fn traceback_way(
             return 0;
         }
         WayAnswer::Refused(reason) => {
-            return reason_number(reason);
-        }
-        WayAnswer::Unfit => {
-            return 19;
-        }
-        WayAnswer::NoWay => {
-            return 20;
+            return number(reason);
         }
     }
 }

@@ -17,12 +17,13 @@ use Rattle.semiring.specs.declared.Named.the-variants.{Known, Unknown}
 use Rattle.closure.specs.Elimination.{eliminated}
 use Rattle.closure.proofs.Accepted.{accepted-result}
 use Rattle.closure.specs.Tests.{eliminationTests, resultAfter}
-use Rattle.checks.specs.Reason.{reasonNumber}
+use Rattle.refusals.specs.Reason.{reasonNumber}
 use Rattle.checks.specs.inner.Checks.{Checks}
 use Rattle.checks.specs.declared.Checked.{Checked}
 use Rattle.checks.specs.declared.Checked.the-variants.{Fit, Refused}
-use Rattle.checks.specs.declared.Reason.{Reason}
-use Rattle.checks.proofs.Answers.{reason-some, refused-number, fit-tests, fit-input}
+use Rattle.refusals.specs.declared.Reason.{Reason}
+use Rattle.refusals.proofs.Reasons.{reason-some}
+use Rattle.checks.proofs.Answers.{refused-number, fit-tests, fit-input}
 use Rattle.table_layout.specs.LaidOut.{laidOut, ToLayOut}
 use Rattle.elimination.specs.inner.Passes.{PassedAll}
 use Rattle.elimination.specs.inner.Rows.{Square}

@@ -1,3 +1,4 @@
 pub mod Conditions
 pub mod First
 pub mod Cards
+pub mod Reasons

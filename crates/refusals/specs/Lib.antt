@@ -1,3 +1,4 @@
+pub mod Reason
 pub mod Tests
 pub mod Conditions
 pub mod claims

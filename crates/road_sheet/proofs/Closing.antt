@@ -9,7 +9,7 @@ use Rattle.closure.specs.Elimination.{eliminated}
 use Rattle.closure.specs.Tests.{eliminationTests}
 use Rattle.closure.proofs.Accepted.{accepts, accepted-result}
 use Rattle.checks.specs.declared.Reason.{Reason}
-use Rattle.checks.proofs.Answers.{reason-some}
+use Rattle.refusals.proofs.Reasons.{reason-some}
 use Rattle.paths.specs.declared.Closed.{Closed}
 use Rattle.paths.specs.declared.Closed.the-variants.{Refused}
 use Rattle.paths.specs.Closed.{closedNumber}

@@ -2,10 +2,8 @@
 use Prim.Native.Nat.{ℕ, _+_, _-_}
 use native.Mathlib.Omega.{arith}
 use mathlib.Core.Path.{_≡_, sym, ap, _∙_}
-use mathlib.Core.List.{List, [], _∷_, _++_}
+use mathlib.Core.List.{List, _++_}
 use lib.ListN.{length, replicate, length-replicate}
-use denote.Enum.Declared.{tagOf}
-use types.Run.{OneOf, miss}
 use mir.Syntax.{w32}
 use mir.Val.{Fits}
 use Rattle.job_list.specs.Fits.{ListAccepted}
@@ -14,6 +12,8 @@ use Rattle.systolic.specs.Tick.{ticks}
 use Rattle.systolic.specs.Start.{started}
 use Rattle.systolic.specs.Run.{Ran, ran}
 use Rattle.systolic.proofs.Started.{starts}
+use Rattle.refusals.specs.declared.Reason.{Reason}
+use Rattle.refusals.proofs.Reasons.{reason-some}
 use Rattle.starting.specs.declared.StartAnswer.{StartAnswer}
 use Rattle.starting.specs.declared.StartAnswer.the-variants as start
 use Rattle.array.specs.declared.running.RunAnswer.{RunAnswer}
@@ -21,8 +21,6 @@ use Rattle.array.specs.declared.running.RunAnswer.the-variants as run
 use Rattle.starting.specs.StartAnswer.{startNumber}
 use Rattle.starting.specs.StartLeft.{StartLeft}
 use Rattle.array.specs.RunAnswer.{runNumber, runMade, Answered}
-use Rattle.starting.proofs.StartAnswer
-use Rattle.array.proofs.running.RunAnswer
 use Rattle.text.specs.Joined.{joined}
 use Rattle.text.specs.inner.Put.{Put}
 use Rattle.text.proofs.Put.{_then_, put-as}
@@ -37,28 +35,6 @@ record RanWhole (answer : RunAnswer) (results : List ℕ) (whole : Ran) : Type 0
   pub number : runNumber answer ≡ 0
   pub made : runMade answer ≡ whole .made
   pub words : results ≡ whole .results
-
--- An answer that is not the first one is a refusal.
-start-refused : (r : StartAnswer) → OneOf (1 ∷ 2 ∷ 3 ∷ 4 ∷ 5 ∷ 6 ∷ 7 ∷ []) (tagOf StartAnswer.the-type r) → startNumber r ≡ 0 → ⊥
-start-refused start.Done k e = miss (1 ∷ 2 ∷ 3 ∷ 4 ∷ 5 ∷ 6 ∷ 7 ∷ []) 0 tt k
-start-refused start.AlgebraUnknown k e = omega arith
-start-refused start.OrderOutside k e = omega arith
-start-refused start.JobsOutside k e = omega arith
-start-refused start.SizeOutside k e = omega arith
-start-refused start.WeightsLength k e = omega arith
-start-refused start.StateLength k e = omega arith
-start-refused start.WordAbove k e = omega arith
-
-run-refused : (r : RunAnswer) → OneOf (1 ∷ 2 ∷ 3 ∷ 4 ∷ 5 ∷ 6 ∷ 7 ∷ 8 ∷ []) (tagOf RunAnswer.the-type r) → runNumber r ≡ 0 → ⊥
-run-refused (run.Made n) k e = miss (1 ∷ 2 ∷ 3 ∷ 4 ∷ 5 ∷ 6 ∷ 7 ∷ 8 ∷ []) 0 tt k
-run-refused run.StateUnfit k e = omega arith
-run-refused run.JobsDiffer k e = omega arith
-run-refused run.AlgebraUnknown k e = omega arith
-run-refused run.SizeOutside k e = omega arith
-run-refused run.WeightsLength k e = omega arith
-run-refused run.ScratchLength k e = omega arith
-run-refused run.ResultsLength k e = omega arith
-run-refused run.WordAbove k e = omega arith
 
 -- The first line and the ticks' lines are the sheet.
 sheet-is : (algebras : List ℕ) (order : ℕ) (sizes weights : List ℕ) {made : ℕ} {results : List ℕ} (after : Ran)
@@ -85,8 +61,10 @@ module _ {algebras : List ℕ} {order : ℕ} {sizes weights state scratch result
   }
 
   module _ {first : StartAnswer} {state′ : List ℕ} (left : StartLeft first algebras order sizes weights state state′) where
-    pub start-accepts : OneOf (1 ∷ 2 ∷ 3 ∷ 4 ∷ 5 ∷ 6 ∷ 7 ∷ []) (tagOf StartAnswer.the-type first) → ⊥
-    start-accepts refused = start-refused first refused (left .outcome ∙ starts (asked .0) state (asked .1 .state-fits))
+    -- No reason has the number 0, which start and run answer.
+    pub start-accepts : {reason : Reason} → first ≡ start.Refused reason → ⊥
+    start-accepts {reason} refused =
+        reason-some reason (sym (ap startNumber refused) ∙ left .outcome ∙ starts (asked .0) state (asked .1 .state-fits))
 
     module _ {answer : RunAnswer} {state″ scratch″ results′ results″ : List ℕ} (cleared : results′ ≡ replicate (length results) 0)
         (answered : Answered answer state″ scratch″ results″ (ran state′ algebras sizes weights 65535 scratch results′)) where
@@ -101,8 +79,8 @@ module _ {algebras : List ℕ} {order : ℕ} {sizes weights state scratch result
             words = answered .results-after ∙ words;
           }
 
-      pub run-accepts : OneOf (1 ∷ 2 ∷ 3 ∷ 4 ∷ 5 ∷ 6 ∷ 7 ∷ 8 ∷ []) (tagOf RunAnswer.the-type answer) → ⊥
-      run-accepts refused = run-refused answer refused (run-done .number)
+      pub run-accepts : {reason : Reason} → answer ≡ run.Refused reason → ⊥
+      run-accepts {reason} refused = reason-some reason (sym (ap runNumber refused) ∙ run-done .number)
 
       pub sheet-printed : {ticks : ℕ} → answer ≡ run.Made ticks → {page page′ page″ : List ℕ} {at next : ℕ}
           → Put page 0 (jobsLine (length sizes) ticks) page′ at

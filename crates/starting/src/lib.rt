@@ -10,19 +10,15 @@ use job_list::any_outside;
 use job_list::any_unknown;
 use job_list::words_before;
 use memory::clear;
+use refusals::Reason;
+use refusals::number;
 use state_header::Header;
 use state_header::store_header;
 
 // What a call of start answers: that the state is laid out, or why it turned back.
 pub enum StartAnswer {
     Done,
-    AlgebraUnknown,
-    OrderOutside,
-    JobsOutside,
-    SizeOutside,
-    WeightsLength,
-    StateLength,
-    WordAbove,
+    Refused(Reason),
 }
 
 // A state with planes 0.
@@ -46,34 +42,34 @@ pub fn start(
     ensures { λ r. ⌜ StartLeft r (now (algebras .entry)) order (now (sizes .entry)) (now (weights .entry)) (now (state .entry)) (now (state .exit)) ⌝ }
 {
     if any_unknown(algebras) {
-        return StartAnswer::AlgebraUnknown;
+        return StartAnswer::Refused(Reason::AlgebraUnknown);
     }
     if order < 1 {
-        return StartAnswer::OrderOutside;
+        return StartAnswer::Refused(Reason::OrderOutside);
     }
     if 32 < order {
-        return StartAnswer::OrderOutside;
+        return StartAnswer::Refused(Reason::OrderOutside);
     }
     if sizes.len() < 1 {
-        return StartAnswer::JobsOutside;
+        return StartAnswer::Refused(Reason::JobsOutside);
     }
     if 16 < sizes.len() {
-        return StartAnswer::JobsOutside;
+        return StartAnswer::Refused(Reason::JobsOutside);
     }
     if algebras.len() != sizes.len() {
-        return StartAnswer::JobsOutside;
+        return StartAnswer::Refused(Reason::JobsOutside);
     }
     if any_outside(order, sizes) {
-        return StartAnswer::SizeOutside;
+        return StartAnswer::Refused(Reason::JobSizeOutside);
     }
     if weights.len() != words_before(sizes, sizes.len()) {
-        return StartAnswer::WeightsLength;
+        return StartAnswer::Refused(Reason::WeightsLength);
     }
     if state.len() != 4 + 3 * (order * order) {
-        return StartAnswer::StateLength;
+        return StartAnswer::Refused(Reason::StateLength);
     }
     if any_above(algebras, sizes, weights) {
-        return StartAnswer::WordAbove;
+        return StartAnswer::Refused(Reason::WordAbove);
     }
     lay_out(
         Header {
@@ -92,12 +88,6 @@ pub fn start_number(answer: StartAnswer) -> u32
 {
     match answer {
         StartAnswer::Done => 0,
-        StartAnswer::AlgebraUnknown => 1,
-        StartAnswer::OrderOutside => 6,
-        StartAnswer::JobsOutside => 7,
-        StartAnswer::SizeOutside => 8,
-        StartAnswer::WeightsLength => 3,
-        StartAnswer::StateLength => 9,
-        StartAnswer::WordAbove => 5,
+        StartAnswer::Refused(reason) => number(reason),
     }
 }

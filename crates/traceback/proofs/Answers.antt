@@ -16,12 +16,13 @@ use Rattle.semiring.specs.declared.Named.the-variants.{Known, Unknown}
 use Rattle.closure.specs.Elimination.{eliminated}
 use Rattle.closure.specs.Tests.{eliminationTable, eliminationTests}
 use Rattle.closure.proofs.Accepted.{Accepted}
-use Rattle.checks.specs.Reason.{reasonNumber}
+use Rattle.refusals.specs.Reason.{reasonNumber}
 use Rattle.checks.specs.inner.Checks.{Checks}
 use Rattle.checks.specs.declared.Checked.{Checked}
 use Rattle.checks.specs.declared.Checked.the-variants.{Fit, Refused}
-use Rattle.checks.specs.declared.Reason.{Reason}
-use Rattle.checks.proofs.Answers.{reason-some, refused-number, fit-tests, fit-input}
+use Rattle.refusals.specs.declared.Reason.{Reason}
+use Rattle.refusals.proofs.Reasons.{reason-some}
+use Rattle.checks.proofs.Answers.{refused-number, fit-tests, fit-input}
 use Rattle.closed.specs.inner.Tables.{Tables}
 use Rattle.ways.specs.Tests.{furtherTable, wayTests}
 use Rattle.ways.specs.Given.{WayGiven}

@@ -3,20 +3,17 @@ ghost use mathlib.Core.Path.{_≡_};
 ghost use Rattle.ways.specs.Given.{WayGiven};
 ghost use Rattle.traceback.specs.WayAnswer.{wayNumber, wayLength};
 use checks::Checked;
-use checks::Reason;
 use checks::check;
-use checks::reason_number;
 use closed::is_closed;
 use levels::find;
+use refusals::Reason;
+use refusals::number;
 use semiring::none;
 
-// What a call answers: how many points the way has; why the elimination's checks turned it back; that the list, a point or the
-// closed table does not fit; or that there is no way.
+// What a call answers: how many points the way has, or why it turned back.
 pub enum WayAnswer {
     Points(usize),
     Refused(Reason),
-    Unfit,
-    NoWay,
 }
 
 // A way from one point to another with no point twice, whose word is the closed entry, into the front of `list`. A refusal
@@ -39,19 +36,19 @@ pub fn way(
         Checked::Refused(reason) => return WayAnswer::Refused(reason),
     };
     if list.len() != size {
-        return WayAnswer::Unfit;
+        return WayAnswer::Refused(Reason::WayUnfit);
     }
     if size <= from {
-        return WayAnswer::Unfit;
+        return WayAnswer::Refused(Reason::WayUnfit);
     }
     if size <= to {
-        return WayAnswer::Unfit;
+        return WayAnswer::Refused(Reason::WayUnfit);
     }
     if !is_closed(a, size, links, closed) {
-        return WayAnswer::Unfit;
+        return WayAnswer::Refused(Reason::WayUnfit);
     }
     if closed[from * size + to] == none(a) {
-        return WayAnswer::NoWay;
+        return WayAnswer::Refused(Reason::NoWay);
     }
     let count = find(a, size, links, closed, from, to, list);
     WayAnswer::Points(count)
@@ -63,9 +60,7 @@ pub fn way_number(answer: WayAnswer) -> u32
 {
     match answer {
         WayAnswer::Points(_) => 0,
-        WayAnswer::Refused(reason) => reason_number(reason),
-        WayAnswer::Unfit => 19,
-        WayAnswer::NoWay => 20,
+        WayAnswer::Refused(reason) => number(reason),
     }
 }
 
@@ -76,7 +71,5 @@ pub fn way_length(answer: WayAnswer) -> usize
     match answer {
         WayAnswer::Points(points) => points,
         WayAnswer::Refused(_) => 0,
-        WayAnswer::Unfit => 0,
-        WayAnswer::NoWay => 0,
     }
 }

@@ -6,7 +6,7 @@ use Rattle.semiring.specs.Named.{namedOf}
 use Rattle.semiring.specs.declared.Algebra.{Algebra}
 use Rattle.semiring.specs.declared.Named.the-variants.{Known}
 use Rattle.closure.specs.Tests.{eliminationTests}
-use Rattle.checks.specs.Reason.{reasonNumber}
+use Rattle.refusals.specs.Reason.{reasonNumber}
 use Rattle.checks.specs.declared.Checked.{Checked}
 use Rattle.checks.specs.declared.Checked.the-variants.{Fit, Refused}
 

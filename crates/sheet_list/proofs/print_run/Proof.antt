@@ -17,14 +17,14 @@ begun c = c .before .before .before .before .before .before .before .before .bef
 turned-back : tie.Need-returns
 turned-back c =
     let s : tie.After-start = search needs in
-    absurd (start-accepts (begun s .pre) (s .start .ensures) (c .match .keys2))
+    absurd (start-accepts (begun s .pre) (s .start .ensures) (c .enum-told2 .given .1))
 
 run-turned-back : tie.Need-returns-2
 run-turned-back c =
     let r : tie.After-run = search needs in
     let z = cleared r in
     let s = started z in
-    absurd (run-accepts (begun s .pre) (s .start .ensures) (z .clear .ensures) (r .run .ensures) (c .match2 .keys2))
+    absurd (run-accepts (begun s .pre) (s .start .ensures) (z .clear .ensures) (r .run .ensures) (c .enum-told3 .given .1))
 
 lines-ready : tie.Need-put-ticks-requires
 lines-ready c κs =
@@ -51,10 +51,12 @@ print-run-spec =
     (λ c κs. search needs)
     (λ c. search needs)
     (λ c. search needs)
+    (λ c. search needs)
     turned-back
     -- run
     (λ c κs. search needs)
     (λ c κs. search needs)
+    (λ c. search needs)
     (λ c. search needs)
     (λ c. search needs)
     (λ c. search needs)

@@ -13,15 +13,8 @@ traceback-way-spec =
     (λ c. search needs)
     (λ c. search needs)
     (λ c. search host-points)
-    -- the elimination's checks
+    -- a refusal
     (λ c. search needs)
     (λ c κs. search needs)
-    (λ c. search needs)
-    (λ c. search host-refused)
-    -- unfit, and no way
-    (λ c. search needs)
-    (λ c. search needs)
-    (λ c. search host-refused)
-    (λ c. search needs)
     (λ c. search needs)
     (λ c. search host-refused))
