@@ -9,3 +9,4 @@ pub mod Rounds
 pub mod Runs
 pub mod Walks
 pub mod Words
+pub mod Spelling
