@@ -3,25 +3,30 @@ use Prim.Native.Nat.{ℕ, _<_, _≤_}
 use Prim.Native.Char.{code}
 use native.Mathlib.Omega.{arith}
 use mathlib.Core.Path.{_≡_, refl, ap, subst, _∙_}
+use mathlib.Core.Logic.{inl, inr}
 use mathlib.Core.List.{List, [], _∷_}
 use mathlib.Core.Bool.{Bool, true, false, cond, true≢false}
 use lib.ListN.{length}
 use lib.Dec.{ltb}
-use borrow.Author.Tests.{ltb-true, ltb-false, lt-ltb, le-ltb}
+use borrow.Author.Tests.{ltb-false, le-ltb}
 use Rattle.memory.specs.Lists.{same}
 use Rattle.memory.proofs.Same.{same-equal}
 use Rattle.semiring.specs.declared.Algebra.{Algebra}
 use Rattle.semiring.specs.declared.Algebra.the-variants.{Reach, Distance, Steepest}
 use Rattle.semiring.specs.Algebra.{topOf}
 use Rattle.text.specs.Ascii.{ascii}
-use Rattle.text.specs.Numeral.{digits, decimal}
+use Rattle.text.specs.Numeral.{digits, decimal, numeralOf}
+use Rattle.text.specs.declared.numeral.Numeral.{Numeral}
+use Rattle.text.specs.declared.numeral.Numeral.the-variants as read
+use Rattle.text.specs.claims.Spelling.{Digits}
 use Rattle.job_form.specs.declared.tokens.Token.{Token}
 use Rattle.job_form.specs.declared.tokens.Token.the-variants.{Number, Over, Dash, Name, Other}
-use Rattle.job_form.specs.Tokens.{numeralToken, name, tokenOf}
+use Rattle.job_form.specs.Tokens.{numberIn, numeralToken, name, tokenOf}
 use Rattle.job_form.specs.Words.{wordOf, overIn, noWord}
 use Rattle.job_form.specs.claims.Written.{NumberOf, OverNumeral, over-digits, over-value, Named, reach, distance, steepest}
 use Rattle.job_form.specs.claims.Written.{Word, in-reach, in-distance, in-steepest, none-in-distance, none-in-steepest}
 use Rattle.job_form.specs.claims.Exactly.{TokenExactly}
+use Rattle.text.proofs.Limits.{Limits, limits, of-limits}
 use Rattle.text.proofs.Spelling.{digits-said, said-digits}
 
 -- What a token says of the bytes of its part.
@@ -37,13 +42,13 @@ chosen p true x y f g = f refl
 chosen p false x y f g = g refl
 
 numeral-spelled : (p : List ℕ) → 1 ≤ length p → digits p ≡ true → Spelled p (numeralToken p)
-numeral-spelled p some all = by (ltb 5 (length p)) (ltb 65535 (decimal 0 p)) refl refl
+numeral-spelled p some all = by (numeralOf 5 65535 p) (limits 5 65535 p)
   where
-    by : (b c : Bool) → ltb 5 (length p) ≡ b → ltb 65535 (decimal 0 p) ≡ c → Spelled p (numeralToken p)
-    by true c e f = rw e (over-digits (digits-said 0 p all) (ltb-true 5 (length p) e))
-    by false true e f = rw (e, f) (over-value (digits-said 0 p all) (ltb-true 65535 (decimal 0 p) f))
-    by false false e f = rw (e, f)
-        (record { some = some; few = ltb-false 5 (length p) e; digits = digits-said 0 p all; most = ltb-false 65535 (decimal 0 p) f })
+    by : (r : Numeral) → Limits 5 65535 p r → Spelled p (numberIn r)
+    by (read.Number n) (few, is, most) =
+        record { some = some; few = few; digits = subst (λ (x : ℕ). Digits 0 p x) is (digits-said 0 p all); most = most }
+    by read.Over (inl h) = over-digits (digits-said 0 p all) h
+    by read.Over (inr h) = over-value (digits-said 0 p all) h
 
 name-spelled : (p : List ℕ) → Spelled p (name p)
 unfolding name
@@ -60,15 +65,27 @@ token-spelled (b ∷ p) =
     chosen (b ∷ p) (same (b ∷ p) (ascii "-")) Dash _ (λ e. same-equal (b ∷ p) (ascii "-") e) (λ m. name-spelled (b ∷ p)))
 
 -- And back.
-numeral-read : (p : List ℕ) (n : ℕ) → NumberOf p n → tokenOf p ≡ Number n
+numeral-read : (p : List ℕ) (r : Numeral) → 1 ≤ length p → digits p ≡ true → Limits 5 65535 p r → tokenOf p ≡ numberIn r
 unfolding tokenOf
-numeral-read [] n h = absurd (omega (arith, h .some))
-numeral-read (b ∷ p) n h =
-    let (all, value) = said-digits (h .digits) in
-    rw (all, value, le-ltb 5 (length (b ∷ p)) (h .few), le-ltb 65535 n (h .most))
+numeral-read [] r some all h = absurd (omega arith)
+numeral-read (b ∷ p) r some all h = rw all (ap numberIn (of-limits 5 65535 (b ∷ p) r h))
 
 pub numeral-token : {p : List ℕ} {n : ℕ} → NumberOf p n → tokenOf p ≡ Number n
-numeral-token {p} {n} h = numeral-read p n h
+numeral-token {p} {n} h =
+    let (all, value) = said-digits (h .digits) in
+    numeral-read p (read.Number n) (h .some) all (h .few, value, h .most)
+
+some-digit : (p : List ℕ) → 65535 < decimal 0 p → 1 ≤ length p
+unfolding decimal
+some-digit [] h = absurd (omega arith)
+some-digit (b ∷ p) h = omega arith
+
+over-token : {p : List ℕ} → OverNumeral p → tokenOf p ≡ Over
+over-token {p} (over-digits d h) = numeral-read p read.Over (omega arith) (said-digits d .0) (inl h)
+over-token {p} (over-value d h) =
+    let (all, value) = said-digits d in
+    let large : 65535 < decimal 0 p = rw value h in
+    numeral-read p read.Over (some-digit p large) all (inr large)
 
 pub name-token : {p : List ℕ} {a : Algebra} → Named p a → tokenOf p ≡ Name a
 unfolding tokenOf name digits
@@ -79,24 +96,6 @@ name-token steepest = refl
 pub dash-token : tokenOf (code "-" ∷ []) ≡ Dash
 unfolding tokenOf digits
 dash-token = refl
-
-over-long : (p : List ℕ) → digits p ≡ true → 5 < length p → tokenOf p ≡ Over
-unfolding tokenOf
-over-long [] all h = absurd (omega arith)
-over-long (b ∷ p) all h = rw (all, lt-ltb 5 (length (b ∷ p)) h)
-
-over-large : (p : List ℕ) → digits p ≡ true → 65535 < decimal 0 p → tokenOf p ≡ Over
-unfolding tokenOf decimal
-over-large [] all h = absurd (omega arith)
-over-large (b ∷ p) all h = by (ltb 5 (length (b ∷ p))) refl
-  where
-    by : (x : Bool) → ltb 5 (length (b ∷ p)) ≡ x → tokenOf (b ∷ p) ≡ Over
-    by true e = rw (all, e)
-    by false e = rw (all, e, lt-ltb 65535 (decimal 0 (b ∷ p)) h)
-
-over-token : {p : List ℕ} → OverNumeral p → tokenOf p ≡ Over
-over-token {p} (over-digits d h) = over-long p (said-digits d .0) h
-over-token {p} (over-value {n} d h) = over-large p (said-digits d .0) (rw (said-digits d .1) h)
 
 -- What a token says, both ways.
 pub tokens-exactly : (p : List ℕ) → TokenExactly p

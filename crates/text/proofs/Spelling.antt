@@ -143,7 +143,11 @@ digit-of (suc (suc (suc (suc (suc (suc (suc (suc zero)))))))) h = eight
 digit-of (suc (suc (suc (suc (suc (suc (suc (suc (suc zero))))))))) h = nine
 digit-of (suc (suc (suc (suc (suc (suc (suc (suc (suc (suc k)))))))))) h = absurd (omega arith)
 
-byte-digit : (b : ℕ) → not (ltb b 48 || ltb 57 b) ≡ true → Digit b (b - 48)
+-- the test of `digits`
+abbrev isDigit : ℕ → Bool
+isDigit b = not (ltb b 48 || ltb 57 b)
+
+byte-digit : (b : ℕ) → isDigit b ≡ true → Digit b (b - 48)
 byte-digit b e =
     let (low, high) = both-false (ltb b 48) (ltb 57 b) (not-true (ltb b 48 || ltb 57 b) e) in
     let least : 48 ≤ b = ltb-false b 48 low in
@@ -155,7 +159,7 @@ byte-digit b e =
     not-true true e = sym e
     not-true false e = refl
 
-digit-byte : {b d : ℕ} → Digit b d → (not (ltb b 48 || ltb 57 b) ≡ true) × (b - 48 ≡ d)
+digit-byte : {b d : ℕ} → Digit b d → (isDigit b ≡ true) × (b - 48 ≡ d)
 digit-byte zero-digit = (refl, refl)
 digit-byte one = (refl, refl)
 digit-byte two = (refl, refl)
@@ -171,7 +175,7 @@ pub digits-said : (v : ℕ) (p : List ℕ) → digits p ≡ true → Digits v p 
 unfolding digits decimal
 digits-said v [] e = no-more
 digits-said v (b ∷ p) e =
-    let (here, more) = both-true (not (ltb b 48 || ltb 57 b)) (digits p) e in
+    let (here, more) = both-true (isDigit b) (digits p) e in
     digit (byte-digit b here) (digits-said (10 * v + (b - 48)) p more)
 
 pub said-digits : {v n : ℕ} {p : List ℕ} → Digits v p n → (digits p ≡ true) × (decimal v p ≡ n)
