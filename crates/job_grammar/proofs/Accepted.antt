@@ -13,7 +13,7 @@ use Rattle.job_form.specs.claims.Written.{list, Written}
 use Rattle.job_reading.specs.Steps.{start, go}
 use Rattle.job_reading.specs.Reading.{Reading, accepted, follow, unless, lengthTests, readingOf}
 use Rattle.job_reading.proofs.Whole.{within-buffers}
-use Rattle.job_grammar.specs.Texts.{InRange, Unskipped, Jobs, Listed, listed, ListText}
+use Rattle.job_grammar.specs.Texts.{InRange, Unskipped, JobsWritten, ListWritten, listed, ListText}
 use Rattle.job_grammar.specs.claims.Accepted.{Accepted-exactly}
 use Rattle.job_grammar.proofs.Ahead.{Tail, ListAhead, whole-list}
 use Rattle.job_grammar.proofs.Leads.{with-skipped, listed-accepted}
@@ -21,17 +21,17 @@ use Rattle.job_grammar.proofs.Leads.{with-skipped, listed-accepted}
 module _ (text : List ℕ) (o : ℕ) (bs ns ws : List ℕ) where
   -- a list's line, and behind it all its jobs
   all-listed : {fs : List (List ℕ)} {line : List ℕ} → Written line (list o) → InRange 32 o → length ns ≤ 16 → Tail o bs ns ws fs o [] [] []
-      → Listed (line ∷ fs) o bs ns ws
+      → ListWritten (line ∷ fs) o bs ns ws
   all-listed {fs} {line} w range few t = by (t .cs) (t .ms) (t .us) (t .algebras-are) (t .sizes-are) (t .words-are) (t .jobs)
     where
-      by : (cs ms us : List ℕ) → cs ≡ bs → ms ≡ ns → us ≡ ws → Jobs o (t .forms) cs ms us → Listed (line ∷ fs) o bs ns ws
+      by : (cs ms us : List ℕ) → cs ≡ bs → ms ≡ ns → us ≡ ws → JobsWritten o (t .forms) cs ms us → ListWritten (line ∷ fs) o bs ns ws
       by cs ms us f g h jobs =
-          subst (λ (x : List (List ℕ)). Listed (line ∷ x) o bs ns ws) (sym (t .shape))
-          (listed w range (subst (λ (x : List ℕ). Jobs o (t .forms) bs ns x) h
-          (subst (λ (x : List ℕ). Jobs o (t .forms) bs x us) g (subst (λ (x : List ℕ). Jobs o (t .forms) x ms us) f jobs))) (t .some, few) (t .closed))
+          subst (λ (x : List (List ℕ)). ListWritten (line ∷ x) o bs ns ws) (sym (t .shape))
+          (listed w range (subst (λ (x : List ℕ). JobsWritten o (t .forms) bs ns x) h
+          (subst (λ (x : List ℕ). JobsWritten o (t .forms) bs x us) g (subst (λ (x : List ℕ). JobsWritten o (t .forms) x ms us) f jobs))) (t .some, few) (t .closed))
 
   lines-listed : (ls : List (List ℕ)) → follow 0 ls (go start) ≡ accepted o bs ns ws → length ns ≤ 16
-      → (fs : List (List ℕ)) × Unskipped ls fs × Listed fs o bs ns ws
+      → (fs : List (List ℕ)) × Unskipped ls fs × ListWritten fs o bs ns ws
   lines-listed ls e few =
       let h : ListAhead o bs ns ws ls [] [] [] = whole-list o bs ns ws ls e in
       (h .line ∷ h .fs, h .kept, all-listed (h .written) (h .range) few (h .tail))

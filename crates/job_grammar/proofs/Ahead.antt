@@ -22,7 +22,7 @@ use Rattle.job_reading.specs.Reading.{refused, accepted, refusal, ended, follow
 use Rattle.job_reading.proofs.Insensitive.{follow-stop}
 use Rattle.job_form.specs.claims.Written.{Written}
 use Rattle.job_form.specs.claims.Written.{list as list-of, job as job-of, row as row-of, close as close-of, skipped as skipped-of}
-use Rattle.job_grammar.specs.Texts.{InRange, Unskipped, none, skip, keep, Rows, no-row, a-row, Jobs, no-job, a-job}
+use Rattle.job_grammar.specs.Texts.{InRange, Unskipped, none, skip, keep, RowsWritten, no-row, a-row, JobsWritten, no-job, a-job}
 use Rattle.job_form.proofs.Written.{written-list, written-job, written-row, written-close, written-skipped}
 
 module _ (o : ℕ) (bs ns ws : List ℕ) where
@@ -37,7 +37,7 @@ module _ (o : ℕ) (bs ns ws : List ℕ) where
     pub ms : List ℕ
     pub us : List ℕ
     pub shape : fs ≡ forms ++ (end ∷ [])
-    pub jobs : Jobs order forms cs ms us
+    pub jobs : JobsWritten order forms cs ms us
     pub closed : Written end close-of
     pub order-is : order ≡ o
     pub algebras-are : gs ++ cs ≡ bs
@@ -71,7 +71,7 @@ module _ (o : ℕ) (bs ns ws : List ℕ) where
     fs : List (List ℕ)
     us : List ℕ
     kept : Unskipped ls (rs ++ line ∷ fs)
-    rows : Rows a size left rs us
+    rows : RowsWritten a size left rs us
     written : Written line close-of
     tail : Tail fs order gs ss (vs ++ us)
 
@@ -200,7 +200,7 @@ module _ (o : ℕ) (bs ns ws : List ℕ) where
           fs = h .fs;
           us = us ++ [];
           kept = keep (h .kept);
-          rows = subst (λ (m : ℕ). Rows a size m (l ∷ []) (us ++ [])) one (a-row w long no-row);
+          rows = subst (λ (m : ℕ). RowsWritten a size m (l ∷ []) (us ++ [])) one (a-row w long no-row);
           written = h .written;
           tail = subst (λ (x : List ℕ). Tail (h .fs) order gs ss (vs ++ x)) (sym (append-nil us)) (h .tail);
         }
@@ -212,7 +212,7 @@ module _ (o : ℕ) (bs ns ws : List ℕ) where
           fs = h .fs;
           us = us ++ h .us;
           kept = keep (h .kept);
-          rows = subst (λ (m : ℕ). Rows a size m (l ∷ h .rs) (us ++ h .us)) more (a-row w long (h .rows));
+          rows = subst (λ (m : ℕ). RowsWritten a size m (l ∷ h .rs) (us ++ h .us)) more (a-row w long (h .rows));
           written = h .written;
           tail = subst (λ (x : List ℕ). Tail (h .fs) order gs ss x) (append-assoc vs us (h .us)) (h .tail);
         }

@@ -22,7 +22,7 @@ use Rattle.job_reading.specs.Reading.{Reading, refused, accepted, refusal, ende
 use Rattle.job_reading.proofs.Insensitive.{follow-stop}
 use Rattle.job_form.specs.claims.Written.{Written}
 use Rattle.job_form.specs.claims.Written.{list as list-of, job as job-of, row as row-of, close as close-of}
-use Rattle.job_grammar.specs.Texts.{InRange, Unskipped, none, skip, keep, Rows, no-row, a-row, Jobs, no-job, a-job, Listed, listed}
+use Rattle.job_grammar.specs.Texts.{InRange, Unskipped, none, skip, keep, RowsWritten, no-row, a-row, JobsWritten, no-job, a-job, ListWritten, listed}
 use Rattle.job_form.proofs.Written.{list-written, job-written, row-written, close-written, skipped-written}
 
 -- Skipped lines put in change no acceptance.
@@ -68,7 +68,7 @@ module _ (order : ℕ) (x : Reading) where
       let counted : length ts ≡ size = sym (length-map ts (wordOf a)) ∙ ap length (h .are) ∙ long in
       rw (is, h .each-word, h .none-over, h .none-above, h .are, eq-eqb (length ts) size counted)
 
-  rows-lead : {a : Algebra} {size m : ℕ} {rs : List (List ℕ)} {us : List ℕ} → Rows a size m rs us → 1 ≤ m
+  rows-lead : {a : Algebra} {size m : ℕ} {rs : List (List ℕ)} {us : List ℕ} → RowsWritten a size m rs us → 1 ≤ m
       → (i : ℕ) (gs ss vs : List ℕ) (rest : List (List ℕ)) → ((j left : ℕ) → follow j rest (at due.Close a size left gs ss (vs ++ us)) ≡ x)
       → follow i (rs ++ rest) (at due.Row a size m gs ss vs) ≡ x
   rows-lead no-row some i gs ss vs rest then = absurd (omega arith)
@@ -95,7 +95,7 @@ module _ (order : ℕ) (x : Reading) where
   unfolding step
   close-step a size left gs ss vs w = rw (close-written w)
 
-  jobs-lead : {js : List (List ℕ)} {cs ms us : List ℕ} → Jobs order js cs ms us
+  jobs-lead : {js : List (List ℕ)} {cs ms us : List ℕ} → JobsWritten order js cs ms us
       → (i : ℕ) (a : Algebra) (size left : ℕ) (gs ss vs : List ℕ) (rest : List (List ℕ)) → length ss + length ms ≤ 16
       → ((j : ℕ) (b : Algebra) (n k : ℕ) → follow j rest (at due.Job b n k (gs ++ cs) (ss ++ ms) (vs ++ us)) ≡ x)
       → follow i (js ++ rest) (at due.Job a size left gs ss vs) ≡ x
@@ -128,7 +128,7 @@ follow-end : (i : ℕ) (p : Progress) → follow i [] (go p) ≡ ended (p .due) 
 unfolding follow
 follow-end i p = refl
 
-pub listed-accepted : {fs : List (List ℕ)} {o : ℕ} {bs ns ws : List ℕ} → Listed fs o bs ns ws → follow 0 fs (go start) ≡ accepted o bs ns ws
+pub listed-accepted : {fs : List (List ℕ)} {o : ℕ} {bs ns ws : List ℕ} → ListWritten fs o bs ns ws → follow 0 fs (go start) ≡ accepted o bs ns ws
 listed-accepted (listed {l} {r} {ls} {order = o} {bs} {ns} {ws} w range jobs count end) =
     follow-by 0 l (ls ++ (r ∷ [])) start (list-step w range)
     ∙ jobs-lead o (accepted o bs ns ws) jobs 1 Reach 0 0 [] [] [] (r ∷ []) (omega (arith, count .1))
