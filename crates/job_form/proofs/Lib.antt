@@ -5,3 +5,8 @@ pub mod Scans
 pub mod Tallies
 pub mod Words
 pub mod Limits
+pub mod Spelled
+pub mod RowWords
+pub mod FormParts
+pub mod Written
+pub mod Exactly

@@ -5,7 +5,7 @@ use native.Mathlib.Decide.{decLt}
 use mathlib.Core.Path.{_≡_, refl, sym, ap, _∙_}
 use mathlib.Core.List.{List, [], _∷_, _++_}
 use mathlib.Core.Bool.{cond}
-use lib.ListN.{length, set, length-set, length-append}
+use lib.ListN.{length, set, replicate, length-set, length-append}
 use lib.Seq.{set-out}
 use lib.Dec.{ltb}
 use borrow.Author.Tests.{lt-ltb, le-ltb}
@@ -16,6 +16,11 @@ pub length-padded : (n : ℕ) (ws : List ℕ) → length (padded n ws) ≡ n
 length-padded zero ws = refl
 length-padded (suc n) [] = ap suc (length-padded n [])
 length-padded (suc n) (w ∷ ws) = ap suc (length-padded n ws)
+
+-- one that begins with no word is zeros
+pub zeros : (n : ℕ) → replicate n 0 ≡ padded n []
+zeros zero = refl
+zeros (suc n) = ap (λ (l : List ℕ). 0 ∷ l) (zeros n)
 
 pub set-padded : (n : ℕ) (ws : List ℕ) (v : ℕ) → set (padded n ws) (length ws) v ≡ padded n (ws ++ (v ∷ []))
 set-padded zero ws v = refl

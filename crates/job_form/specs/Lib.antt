@@ -3,3 +3,4 @@ pub mod Forms
 pub mod Words
 pub mod Buffer
 pub mod inner
+pub mod claims

@@ -130,10 +130,10 @@ fn lone_line(whole: Line, line: &[u8], from: usize) -> Line
     ensures { λ r. ⌜ Says (now (line .entry)) r (alone (formIn (now (line .entry)) whole) (partsFrom from (now (line .entry)))) ⌝ }
 {
     let more = next_part(line, from);
-    if more.start < more.end {
-        return Line::Unknown;
+    if more.end <= more.start {
+        return whole;
     }
-    whole
+    Line::Unknown
 }
 
 pub fn read_line(line: &[u8]) -> Line

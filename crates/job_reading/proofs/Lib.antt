@@ -5,3 +5,4 @@ pub mod Whole
 pub mod LineTests
 pub mod Refusals
 pub mod Borders
+pub mod Zeroed

@@ -1,5 +1,7 @@
 -- What is claimed of the reader.
+pub mod Borders
 pub mod Insensitive
 pub mod Listing
 pub mod Whole
 pub mod Refusals
+pub mod Zeroed

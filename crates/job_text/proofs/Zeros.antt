@@ -1,14 +1,10 @@
 -- A buffer of zeros is one that begins with no word.
-use Prim.Native.Nat.{ℕ, zero, suc}
-use mathlib.Core.Path.{_≡_, refl, ap, _∙_}
-use mathlib.Core.List.{List, [], _∷_}
+use Prim.Native.Nat.{ℕ}
+use mathlib.Core.Path.{_≡_, _∙_}
+use mathlib.Core.List.{List}
 use lib.ListN.{replicate}
-use Rattle.job_form.specs.Buffer.{padded}
+use Rattle.job_form.proofs.Padded.{zeros}
 use Rattle.job_steps.specs.inner.States.{Cleared, AllCleared}
-
-zeros : (n : ℕ) → replicate n 0 ≡ padded n []
-zeros zero = refl
-zeros (suc n) = ap (λ (l : List ℕ). 0 ∷ l) (zeros n)
 
 pub zeros-cleared : {n : ℕ} {l : List ℕ} → l ≡ replicate n 0 → Cleared n l
 zeros-cleared {n} e = record { zeros = e ∙ zeros n }

@@ -37,6 +37,8 @@ cards = record {
   B8-after = refl;
   B8-ticks = refl;
   B9 = refl;
+  none-steepest = refl;
+  none-reach = refl;
   mixed = refl;
   refusal = refl;
 }

@@ -51,7 +51,7 @@ decimal-step : (v : ℕ) (p : List ℕ) (i : ℕ) → i < length p → decimal v
 unfolding decimal
 decimal-step v p i h = rw (drop-cons p i 0 h, add-one i)
 
-numeral-over : (long most : ℕ) (p : List ℕ) → most < decimal 0 p → Over ≡ numeralOf long most p
+pub numeral-over : (long most : ℕ) (p : List ℕ) → most < decimal 0 p → Over ≡ numeralOf long most p
 numeral-over long most p h = rw (lt-ltb most (decimal 0 p) h) (over (ltb long (length p)))
   where
     over : (b : Bool) → Over ≡ cond (b || true) Over (Number (decimal 0 p))

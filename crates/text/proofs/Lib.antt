@@ -3,9 +3,11 @@ pub mod Digits
 pub mod Fronts
 pub mod Joined
 pub mod Lengths
+pub mod Limits
 pub mod Numerals
 pub mod Put
 pub mod Rounds
 pub mod Runs
+pub mod Spelling
 pub mod Walks
 pub mod Words

@@ -1,2 +1,3 @@
 -- What is claimed of bytes and numerals.
 pub mod Numerals
+pub mod Spelling

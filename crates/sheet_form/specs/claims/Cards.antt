@@ -1,5 +1,5 @@
--- Document 01, "Bench cards": B1 to B9 in one statement, with K4's B7 and K8's texts, and cards more: the elimination's last pass, far and none, a
--- list of three algebras, a refusal's line.
+-- Document 01, "Bench cards": B1 to B9 in one statement, with K4's B7 and K8's texts, and cards more: the elimination's last pass, far and none,
+-- none on the sheet in each algebra, a list of three algebras, a refusal's line.
 use Prim.Native.Nat.{ℕ}
 use mathlib.Core.Path.{_≡_}
 use mathlib.Core.List.{List, [], _∷_, _++_}
@@ -63,6 +63,13 @@ pub record BenchCards : Type 0 where
   pub B9 :
       sheetOf (ascii "(list 2\n(job 2 distance\n(row 0 5)\n(row - 0)\n)\n)\n")
       ≡ ascii "(jobs 1 ticks 10)\n(out 0 0 0 2 7 0)\n(out 0 0 1 2 8 5)\n(out 0 1 0 2 8 -)\n(out 0 1 1 2 9 0)\n"
+  -- "none as `-` outside reach", where there is no way back: B9 is distance's card, and these are the others'
+  pub none-steepest :
+      sheetOf (ascii "(list 2\n(job 2 steepest\n(row 0 5)\n(row - 0)\n)\n)\n")
+      ≡ ascii "(jobs 1 ticks 10)\n(out 0 0 0 2 7 0)\n(out 0 0 1 2 8 5)\n(out 0 1 0 2 8 -)\n(out 0 1 1 2 9 0)\n"
+  pub none-reach :
+      sheetOf (ascii "(list 2\n(job 2 reach\n(row 0 1)\n(row 0 0)\n)\n)\n")
+      ≡ ascii "(jobs 1 ticks 10)\n(out 0 0 0 2 7 1)\n(out 0 0 1 2 8 1)\n(out 0 1 0 2 8 0)\n(out 0 1 1 2 9 1)\n"
   -- K8: "A hall now sends its reach and distance jobs in one list", here with a stage in steepest between them. No way back is 0 in the reach
   -- job and `-` in the distance job.
   pub mixed :

@@ -1,5 +1,5 @@
 -- Document 01: "none as `-` outside reach". Request K8: "Each job its own algebra", so in a mixed list `-` goes by the algebra of the job whose
--- word a line shows. What is read off a line; accepted lists are those of every accepted text (`Whole` in job_text).
+-- word a line shows. What is read off a line; accepted lists are those of every accepted text (`Whole` in job_reading).
 use Prim.Native.Nat.{ℕ}
 use mathlib.Core.Path.{_≡_}
 use mathlib.Core.List.{List, [], _++_}

@@ -1,5 +1,5 @@
 -- Document 02, K1: "Finishers hold the printed sheet against the card and can't see which stage of a hall it belongs to." What they
--- read off a line now. Jobs that fit an array are those of every accepted text (`Whole` in job_text).
+-- read off a line now. Jobs that fit an array are those of every accepted text (`Whole` in job_reading).
 use Prim.Native.Nat.{ℕ}
 use mathlib.Core.Path.{_≡_}
 use mathlib.Core.List.{List, []}

@@ -9,5 +9,5 @@ lone-line-spec =
     tie.close
     (tie.spec
     (λ c κs. search needs)
-    (λ c. search alone-some)
-    (λ c. search alone-none))
+    (λ c. search alone-none)
+    (λ c. search alone-some))

@@ -1,0 +1,3 @@
+-- What is claimed of a line.
+pub mod Written
+pub mod Exactly
