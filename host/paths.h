@@ -1,4 +1,4 @@
-/* The elimination of a table of path words, as the proved archive libhost.a exports it. */
+/* The elimination of a table of path words, as the proved archive libraudvisk.a exports it. */
 #ifndef PATHS_H
 #define PATHS_H
 

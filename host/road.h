@@ -1,4 +1,4 @@
-/* Road files: the text form of the ninth DIMACS shortest path challenge, as the proved archive libhost.a reads it. */
+/* Road files: the text form of the ninth DIMACS shortest path challenge, as the proved archive libraudvisk.a reads it. */
 #ifndef ROAD_H
 #define ROAD_H
 

@@ -1,4 +1,4 @@
-/* The way between two points of a closed table, as the proved archive libhost.a exports it. */
+/* The way between two points of a closed table, as the proved archive libraudvisk.a exports it. */
 #ifndef TRACEBACK_H
 #define TRACEBACK_H
 

@@ -2,7 +2,7 @@
 use memory::same_words;
 use paths::eliminate;
 use paths::number;
-use paths::paths_eliminate;
+use raudvisk::paths_eliminate;
 use text::equal;
 
 pub fn closes(

@@ -1,6 +1,6 @@
 // The array's calls for other languages.
 ghost use Rattle.systolic.specs.Run.{ran};
-ghost use Rattle.host.specs.ArrayCalls.{StartedHost, RanHost};
+ghost use Rattle.raudvisk.specs.ArrayCalls.{StartedHost, RanHost};
 use array::run;
 use array::run_number;
 use array::ticks_made;

@@ -1,8 +1,8 @@
 -- `traceback_way` hands on what `way` answered.
 use borrow.Author.Needs.{needs}
-use Rattle.host.proofs.TracebackCalls.{host-points, host-refused}
-use Rattle.host.proofs.traceback_calls.traceback_way.Statement.{statement}
-use Rattle.host.proofs.traceback_calls.traceback_way.Tie as tie
+use Rattle.raudvisk.proofs.TracebackCalls.{host-points, host-refused}
+use Rattle.raudvisk.proofs.traceback_calls.traceback_way.Statement.{statement}
+use Rattle.raudvisk.proofs.traceback_calls.traceback_way.Tie as tie
 
 pub traceback-way-spec : {M : Type 1} → statement M
 traceback-way-spec =

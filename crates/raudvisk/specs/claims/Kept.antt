@@ -3,7 +3,7 @@ use Prim.Native.Nat.{ℕ}
 use mathlib.Core.Path.{_≡_}
 use mathlib.Core.List.{List}
 use Rattle.systolic.specs.Run.{ran}
-use Rattle.host.specs.ArrayCalls.{StartedHost, RanHost}
+use Rattle.raudvisk.specs.ArrayCalls.{StartedHost, RanHost}
 
 abbrev pub Start-kept-host : Type 0
 Start-kept-host =

@@ -9,7 +9,7 @@ use borrow.Author.Tests.{eq-eqb, ne-eqb}
 use Rattle.systolic.specs.Run.{Ran}
 use Rattle.array.specs.declared.running.RunAnswer.{RunAnswer}
 use Rattle.array.specs.RunAnswer.{runNumber, runMade, Answered}
-use Rattle.host.specs.ArrayCalls.{RanHost}
+use Rattle.raudvisk.specs.ArrayCalls.{RanHost}
 
 module _ {answer : RunAnswer} {state scratch results : List ℕ} {due : Ran} (answered : Answered answer state scratch results due)
     {number : ℕ} (is : number ≡ runNumber answer) where

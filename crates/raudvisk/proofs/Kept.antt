@@ -8,8 +8,8 @@ use borrow.Author.Tests.{ne-eqb}
 use Rattle.systolic.specs.Run.{ran}
 use Rattle.systolic.specs.claims.Refusals.{RunKept}
 use Rattle.systolic.proofs.Refusals.{start-kept, run-kept}
-use Rattle.host.specs.ArrayCalls.{StartedHost, RanHost}
-use Rattle.host.specs.claims.Kept.{Start-kept-host, Run-kept-host}
+use Rattle.raudvisk.specs.ArrayCalls.{StartedHost, RanHost}
+use Rattle.raudvisk.specs.claims.Kept.{Start-kept-host, Run-kept-host}
 
 pub start-kept-host : Start-kept-host
 start-kept-host number algebras order sizes weights state state′ told refused =
