@@ -11,11 +11,12 @@ use Rattle.semiring.specs.declared.Algebra.the-variants.{Distance}
 use Rattle.semiring.proofs.Laws.{laws}
 use Rattle.semiring.proofs.Held.{sum-held}
 use Rattle.closure.specs.Table.{Table, entries, withOwn}
-use Rattle.closure.specs.Elimination.{closure}
+use Rattle.closure.specs.Elimination.{closure, eliminated}
 use Rattle.closure.specs.Ways.{Way, wayWord}
-use Rattle.closure.specs.claims.Lengths.{AllLinked, lengthOf, Shortest, Lengths}
-use Rattle.closure.proofs.Accepted.{Accepted, accepted}
+use Rattle.closure.specs.claims.Lengths.{AllLinked, lengthOf, Shortest, Lengths, Lengths-result}
+use Rattle.closure.proofs.Accepted.{Accepted, accepted, accepted-result}
 use Rattle.closure.proofs.Demand.{closure-best, closure-unbettered}
+use Rattle.closure.proofs.Holds.{rowByRow-holds}
 use Rattle.closure.proofs.Links.{Links, words-links}
 use Rattle.closure.proofs.Ways.{way-word}
 
@@ -60,3 +61,8 @@ pub lengths : Lengths
 lengths n w r e i j hi hj =
     let input : Accepted Distance n w r = accepted e in
     shortest n w (input .words) hi hj
+
+pub lengths-result : Lengths-result
+unfolding eliminated
+lengths-result n w r e i j hi hj =
+    rw (accepted-result Distance n w r e, rowByRow-holds n (closure Distance n w) .word i j hi hj) (lengths n w r e i j hi hj)

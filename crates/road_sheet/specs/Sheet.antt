@@ -1,4 +1,4 @@
--- K7, the program `road`: what is printed for a file.
+-- The program `road` over request K7: what is printed for a file.
 use Prim.Native.Nat.{ℕ, _*_}
 use mathlib.Core.List.{List}
 use lib.ListN.{take}
@@ -11,7 +11,7 @@ use Rattle.road_sheet.specs.Rows.{tableText, refusedText}
 abbrev pub roadTable : ℕ → List ℕ → List ℕ
 roadTable n file = take (n * n) (tableAfter 16384 file)
 
--- "its closed table"
+-- Its elimination in distance.
 abbrev pub closedTable : ℕ → List ℕ → List ℕ
 closedTable n file = eliminated Distance n (roadTable n file)
 
