@@ -3,6 +3,8 @@
 ghost use mathlib.Core.Path.{_≡_};
 ghost use lib.ListN.{length};
 ghost use Rattle.sheet_form.specs.Sheet.{sheetOf};
+ghost use Rattle.sheet_form.specs.claims.Longer.{SameSheet};
+use input::Input;
 use input::read_all;
 use libc::STDOUT_FILENO;
 use sheet::PAGE_BYTES;
@@ -25,19 +27,32 @@ fn write(text: &[u8], sheet: &[u8])
     }
 }
 
+// Of a text that was read whole.
 fn print(text: &[u8]) {
     let mut page = [0u8; PAGE_BYTES];
     let n = print_whole(text, &mut page);
     write(text, &page[..n]);
 }
 
+// Of a text that may go on: only where that changes nothing of its sheet.
+fn print_longer(text: &[u8])
+    requires { ⌜ SameSheet (now text) ⌝ }
+{
+    print(text);
+}
+
 fn main() {
     let mut text = text_room();
     let input = read_all(&mut text);
-    if input.failed {
-        os::fail(b"read");
-        return;
+    match input {
+        Input::Ended(n) => {
+            print(&text[..n]);
+        }
+        Input::Full => {
+            print_longer(&text);
+        }
+        Input::Failed => {
+            os::fail(b"read");
+        }
     }
-    let n = input.bytes;
-    print(&text[..n]);
 }

@@ -1,19 +1,17 @@
 // A road file on standard input, its closed table on standard output. A read or a write that fails and a file longer than the
 // buffer are told on standard error; after a failed read and for a longer file nothing is printed.
 ghost use mathlib.Core.Path.{_≡_};
-ghost use Prim.Native.Nat.{_≤_};
+ghost use Prim.Native.Nat.{_<_, _≤_};
 ghost use lib.ListN.{length};
 ghost use Rattle.road_sheet.specs.Sheet.{roadSheetOf};
+use input::Input;
 use input::read_all;
 use libc::STDERR_FILENO;
 use libc::STDOUT_FILENO;
 use road_sheet::PAGE_BYTES;
 use road_sheet::print_road_whole;
 
-// The bytes of the longest file.
-const FILE_BYTES: usize = 1048576;
-
-// Room for the longest file and one byte more, so that a longer one can be told.
+// Room for the longest file, 1,048,576 bytes, and one byte more, so that a longer one can be told.
 fn file_room() -> [u8; 1048577]
     ensures { λ r. ⌜ length r ≡ 1048577 ⌝ }
 {
@@ -39,20 +37,28 @@ fn print(file: &[u8])
     write(file, &page[..n]);
 }
 
+// Tells that a file is longer than any that is read.
+fn tell_longer(file: &[u8])
+    requires { ⌜ 1048576 < length (now file) ⌝ }
+{
+    io::write_all(
+        STDERR_FILENO,
+        b"road: the file is longer than 1048576 bytes\n",
+    );
+}
+
 fn main() {
     let mut file = file_room();
     let input = read_all(&mut file);
-    if input.failed {
-        os::fail(b"read");
-        return;
+    match input {
+        Input::Ended(n) => {
+            print(&file[..n]);
+        }
+        Input::Full => {
+            tell_longer(&file);
+        }
+        Input::Failed => {
+            os::fail(b"read");
+        }
     }
-    let n = input.bytes;
-    if FILE_BYTES < n {
-        io::write_all(
-            STDERR_FILENO,
-            b"road: the file is longer than 1048576 bytes\n",
-        );
-        return;
-    }
-    print(&file[..n]);
 }
