@@ -3,7 +3,7 @@
 ghost use mathlib.Core.Path.{_≡_};
 ghost use lib.ListN.{length};
 ghost use Rattle.sheet_form.specs.Sheet.{sheetOf};
-ghost use Rattle.sheet_form.specs.claims.Longer.{SameSheet};
+ghost use Rattle.bench.specs.Printed.{ToPrint, InRoom};
 use input::Input;
 use input::read_all;
 use libc::STDOUT_FILENO;
@@ -27,32 +27,33 @@ fn write(text: &[u8], sheet: &[u8])
     }
 }
 
-// Of a text that was read whole.
-fn print(text: &[u8]) {
-    let mut page = [0u8; PAGE_BYTES];
-    let n = print_whole(text, &mut page);
-    write(text, &page[..n]);
-}
-
-// Of a text that may go on: only where that changes nothing of its sheet.
-fn print_longer(text: &[u8])
-    requires { ⌜ SameSheet (now text) ⌝ }
+// Prints the sheet of an input that was read into a text: of the part that is all of it, or that decides its sheet.
+fn print(input: Input, text: &[u8], part: &[u8])
+    requires { ⌜ ToPrint (now text) input (now part) ⌝ }
 {
-    print(text);
+    let mut page = [0u8; PAGE_BYTES];
+    let n = print_whole(part, &mut page);
+    write(part, &page[..n]);
 }
 
-fn main() {
-    let mut text = text_room();
-    let input = read_all(&mut text);
+fn print_input(input: Input, text: &[u8])
+    requires { ⌜ InRoom (now text) input ⌝ }
+{
     match input {
         Input::Ended(n) => {
-            print(&text[..n]);
+            print(input, text, &text[..n]);
         }
         Input::Full => {
-            print_longer(&text);
+            print(input, text, text);
         }
         Input::Failed => {
             os::fail(b"read");
         }
     }
+}
+
+fn main() {
+    let mut text = text_room();
+    let input = read_all(&mut text);
+    print_input(input, &text);
 }

@@ -4,10 +4,11 @@ use native.Mathlib.Omega.{arith}
 use mathlib.Core.Path.{_≡_, refl}
 use mathlib.Core.List.{List, [], _∷_}
 use lib.IntN.{ℤ, pos, negsuc}
+use lib.ListN.{length, take}
 use lib.Signed.{_<ℤ_, ltZ-yes}
 use Rattle.input.specs.declared.Input.{Input}
 use Rattle.input.specs.declared.Input.the-variants.{Ended, Full, Failed}
-use Rattle.input.specs.Reads.{Reads, full, failed, ended, on, ReadInto}
+use Rattle.input.specs.Reads.{Reads, full, failed, ended, on, ReadInto, WholeInput, whole}
 use Rattle.input.specs.claims.Outcomes.{fails, ends, moves, One-read, bytesOf, Last, Told, Outcomes}
 
 below-zero : {k : ℕ} → negsuc k <ℤ pos 0
@@ -55,3 +56,11 @@ outcomes room answers r reads = told-all room answers r (told-from (omega arith)
 -- An input that ended has left room.
 pub ended-below : {room n : ℕ} {r : Input} → ReadInto room r → r ≡ Ended n → n < room
 ended-below {room} {n} told e = outcomes room (told .answers) (Ended n) (rw e at (told .reads)) .0
+
+-- Of an input read into a text.
+module _ (text : List ℕ) {r : Input} {n : ℕ} (told : ReadInto (length text) r) (e : r ≡ Ended n) where
+  pub ended-within : n ≤ length text
+  ended-within = omega (arith, ended-below told e)
+
+  pub ended-whole : WholeInput text (Ended n) (take n text)
+  ended-whole = whole (ended-below told e)

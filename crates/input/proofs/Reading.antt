@@ -38,7 +38,7 @@ module _ {text₀ text : List ℕ} {at : ℕ} (r : Reaching text₀ text at) whe
   next-by most (pos (suc n)) {next} {new} h room same e =
       let is : at + suc n ≡ next = cc in (
         subst (Reaching text₀ new) is
-        (record { size = same; within = omega arith; back = λ answers x g. r .back (pos (suc n) ∷ answers) x (on (omega arith) g) }),
+            (record { size = same; within = omega arith; back = λ answers x g. r .back (pos (suc n) ∷ answers) x (on (omega arith) g) }),
         omega arith,
       )
 

@@ -2,6 +2,7 @@
 use Prim.Native.Nat.{ℕ, zero, suc, _+_, _<_, _≤_}
 use mathlib.Core.List.{List, [], _∷_}
 use lib.IntN.{ℤ, pos, negsuc}
+use lib.ListN.{length, take}
 use Rattle.input.specs.declared.Answer.{Answer}
 use Rattle.input.specs.declared.Answer.the-variants.{Bytes, Unread}
 use Rattle.input.specs.declared.Input.{Input}
@@ -30,3 +31,7 @@ pub data Reads (room : ℕ) : ℕ → List ℤ → Input → Type 0 where
 pub record ReadInto (room : ℕ) (r : Input) : Type 0 where
   pub answers : List ℤ
   pub reads : Reads room 0 answers r
+
+-- The part of a text that is all of an input read into it: only of one that ended.
+pub data WholeInput (text : List ℕ) : Input → List ℕ → Type 0 where
+  whole : {n : ℕ} → n < length text → WholeInput text (Ended n) (take n text)

@@ -1,9 +1,9 @@
 // A road file on standard input, its closed table on standard output. A read or a write that fails and a file longer than the
 // buffer are told on standard error; after a failed read and for a longer file nothing is printed.
 ghost use mathlib.Core.Path.{_≡_};
-ghost use Prim.Native.Nat.{_<_, _≤_};
 ghost use lib.ListN.{length};
 ghost use Rattle.road_sheet.specs.Sheet.{roadSheetOf};
+ghost use Rattle.road.specs.Printed.{ToPrint, ToTell, InRoom};
 use input::Input;
 use input::read_all;
 use libc::STDERR_FILENO;
@@ -28,18 +28,17 @@ fn write(file: &[u8], text: &[u8])
     }
 }
 
-// Of a file that was read whole.
-fn print(file: &[u8])
-    requires { ⌜ length (now file) ≤ 1048576 ⌝ }
+// Prints what a file gives that was read whole into a buffer.
+fn print(input: Input, buffer: &[u8], file: &[u8])
+    requires { ⌜ ToPrint (now buffer) input (now file) ⌝ }
 {
     let mut page = [0u8; PAGE_BYTES];
     let n = print_road_whole(file, &mut page);
     write(file, &page[..n]);
 }
 
-// Tells that a file is longer than any that is read.
-fn tell_longer(file: &[u8])
-    requires { ⌜ 1048576 < length (now file) ⌝ }
+fn tell_longer(input: Input, buffer: &[u8])
+    requires { ⌜ ToTell (now buffer) input ⌝ }
 {
     io::write_all(
         STDERR_FILENO,
@@ -47,18 +46,24 @@ fn tell_longer(file: &[u8])
     );
 }
 
-fn main() {
-    let mut file = file_room();
-    let input = read_all(&mut file);
+fn print_input(input: Input, buffer: &[u8])
+    requires { ⌜ InRoom (now buffer) input ⌝ }
+{
     match input {
         Input::Ended(n) => {
-            print(&file[..n]);
+            print(input, buffer, &buffer[..n]);
         }
         Input::Full => {
-            tell_longer(&file);
+            tell_longer(input, buffer);
         }
         Input::Failed => {
             os::fail(b"read");
         }
     }
+}
+
+fn main() {
+    let mut buffer = file_room();
+    let input = read_all(&mut buffer);
+    print_input(input, &buffer);
 }
