@@ -3,6 +3,8 @@
 ghost use mathlib.Core.Path.{_≡_};
 ghost use lib.ListN.{length};
 ghost use Rattle.sheet_form.specs.Sheet.{sheetOf};
+ghost use Rattle.bench.specs.Printed.{ToPrint, InRoom};
+use input::Input;
 use input::read_all;
 use libc::STDOUT_FILENO;
 use sheet::PAGE_BYTES;
@@ -25,19 +27,33 @@ fn write(text: &[u8], sheet: &[u8])
     }
 }
 
-fn print(text: &[u8]) {
+// Prints the sheet of an input that was read into a text: of the part that is all of it, or that decides its sheet.
+fn print(input: Input, text: &[u8], part: &[u8])
+    requires { ⌜ ToPrint (now text) input (now part) ⌝ }
+{
     let mut page = [0u8; PAGE_BYTES];
-    let n = print_whole(text, &mut page);
-    write(text, &page[..n]);
+    let n = print_whole(part, &mut page);
+    write(part, &page[..n]);
+}
+
+fn print_input(input: Input, text: &[u8])
+    requires { ⌜ InRoom (now text) input ⌝ }
+{
+    match input {
+        Input::Ended(n) => {
+            print(input, text, &text[..n]);
+        }
+        Input::Full => {
+            print(input, text, text);
+        }
+        Input::Failed => {
+            os::fail(b"read");
+        }
+    }
 }
 
 fn main() {
     let mut text = text_room();
     let input = read_all(&mut text);
-    if input.failed {
-        os::fail(b"read");
-        return;
-    }
-    let n = input.bytes;
-    print(&text[..n]);
+    print_input(input, &text);
 }

@@ -1,21 +1,24 @@
 -- Lengths in distance. A way without a link of none has its length, held, as its word (induction on the list: a held sum is not none,
 -- so the next sum is held too), and a way whose word is not none has no such link. The rest is demand 2.
-use Prim.Native.Nat.{ℕ, _+_, _≤_, _<_, min}
+use Prim.Native.Nat.{ℕ, _+_, _*_, _≤_, _<_, min}
 use native.Mathlib.Omega.{arith}
-use mathlib.Core.Path.{_≡_, refl, _∙_}
+use mathlib.Core.Path.{_≡_, refl, sym, ap, subst, _∙_}
 use mathlib.Core.Logic.{_≢_}
 use mathlib.Core.List.{List, [], _∷_}
 use lib.ListN.{getD}
 use Rattle.semiring.specs.Algebra.{Word, noneOf, far}
 use Rattle.semiring.specs.declared.Algebra.the-variants.{Distance}
+use Rattle.semiring.specs.declared.Named.the-variants.{Known}
 use Rattle.semiring.proofs.Laws.{laws}
 use Rattle.semiring.proofs.Held.{sum-held}
 use Rattle.closure.specs.Table.{Table, entries, withOwn}
-use Rattle.closure.specs.Elimination.{closure}
+use Rattle.closure.specs.Elimination.{closure, eliminated}
+use Rattle.closure.specs.Tests.{eliminationTests, resultAfter}
 use Rattle.closure.specs.Ways.{Way, wayWord}
-use Rattle.closure.specs.claims.Lengths.{AllLinked, lengthOf, Shortest, Lengths}
-use Rattle.closure.proofs.Accepted.{Accepted, accepted}
+use Rattle.closure.specs.claims.Lengths.{AllLinked, lengthOf, Shortest, Lengths, Lengths-result}
+use Rattle.closure.proofs.Accepted.{Accepted, accepted, accepted-result}
 use Rattle.closure.proofs.Demand.{closure-best, closure-unbettered}
+use Rattle.closure.proofs.Holds.{rowByRow-holds}
 use Rattle.closure.proofs.Links.{Links, words-links}
 use Rattle.closure.proofs.Ways.{way-word}
 
@@ -60,3 +63,14 @@ pub lengths : Lengths
 lengths n w r e i j hi hj =
     let input : Accepted Distance n w r = accepted e in
     shortest n w (input .words) hi hj
+
+-- The entry that an accepted call leaves.
+entry-left : (n : ℕ) (w r : List ℕ) → eliminationTests (Known Distance) n w r ≡ 0 → (i j : ℕ) → i < n → j < n
+    → getD (resultAfter (Known Distance) n w r) (i * n + j) 0 ≡ closure Distance n w i j
+unfolding eliminated
+entry-left n w r e i j hi hj =
+    ap (λ (l : List ℕ). getD l (i * n + j) 0) (accepted-result Distance n w r e) ∙ rowByRow-holds n (closure Distance n w) .word i j hi hj
+
+pub lengths-result : Lengths-result
+lengths-result n w r e i j hi hj =
+    subst (Shortest n (withOwn Distance (entries n w)) i j) (sym (entry-left n w r e i j hi hj)) (lengths n w r e i j hi hj)

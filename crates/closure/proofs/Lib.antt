@@ -8,3 +8,4 @@ pub mod Passes
 pub mod Simple
 pub mod Ways
 pub mod Refusals
+pub mod Exactly

@@ -2,3 +2,4 @@
 pub mod Refusals
 pub mod Demand
 pub mod Lengths
+pub mod Ways

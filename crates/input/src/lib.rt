@@ -1,59 +1,96 @@
-// All of standard input, as far as there is room.
-ghost use Prim.Native.Nat.{_≤_};
+// All of standard input, as far as there is room, and whether that is all of it.
 ghost use lib.ListN.{length};
+ghost use Rattle.input.specs.Reads.{ReadInto};
+ghost use Rattle.input.specs.inner.Told.{Bounded, AnswerTold, Answered, Within, TurnTold};
 use libc::EINTR;
 use libc::STDIN_FILENO;
 
-// How many bytes were read, and whether a read failed.
-pub struct Input {
-    pub bytes: usize,
-    pub failed: bool,
+// What reading came to.
+pub enum Input {
+    // the input ended after so many bytes, with room left
+    Ended(usize),
+    // no room is left, and more may follow
+    Full,
+    // a read failed
+    Failed,
 }
 
-// One read; no bytes at the end of the input. Where a signal interrupts it, it is made again, at most 1,000 times.
-fn read_some(part: &mut [u8]) -> Input
-    ensures { λ r. ⌜ r .bytes ≤ length (now (part .entry)) ⌝ }
+// What one read answered.
+pub enum Answer {
+    Bytes(usize),
+    Unread,
+}
+
+// What follows it: the place of the next byte, or that this was the last read.
+pub enum Turn {
+    On(usize),
+    Done(Input),
+}
+
+fn answer_of(moved: isize, part: &[u8]) -> Answer
+    requires { ⌜ Bounded (now part) moved ⌝ }
+    ensures { λ r. ⌜ AnswerTold moved r ⌝ }
 {
-    let mut tries: u32 = 1000;
-    while 0 < tries {
-        let moved = libc::read(STDIN_FILENO, part);
-        if 0 <= moved {
-            return Input {
-                bytes: io::count(moved, part),
-                failed: false,
-            };
-        }
-        if os::errno() != EINTR {
-            return Input {
-                bytes: 0,
-                failed: true,
-            };
-        }
-        tries -= 1;
+    if moved < 0 {
+        return Answer::Unread;
     }
-    Input {
-        bytes: 0,
-        failed: true,
+    Answer::Bytes(io::count(moved, part))
+}
+
+fn turn_of(at: usize, answer: Answer, room: usize) -> Turn
+    requires { ⌜ Within at answer room ⌝ }
+    ensures { λ r. ⌜ TurnTold at answer r ⌝ }
+{
+    match answer {
+        Answer::Unread => Turn::Done(Input::Failed),
+        Answer::Bytes(n) => {
+            if n == 0 {
+                return Turn::Done(Input::Ended(at));
+            }
+            Turn::On(at + n)
+        }
     }
+}
+
+// Whether a read that answered so was interrupted by a signal.
+fn interrupted(moved: isize) -> bool {
+    if 0 <= moved {
+        return false;
+    }
+    os::errno() == EINTR
+}
+
+// One read. Where a signal interrupts it, it is made again, at most 1,000 times.
+fn read_some(part: &mut [u8]) -> Answer
+    ensures { λ r. ⌜ Answered (length (now (part .entry))) r ⌝ }
+{
+    let mut moved = libc::read(STDIN_FILENO, part);
+    let mut again: u32 = 0;
+    while again < 1000 {
+        if !interrupted(moved) {
+            return answer_of(moved, part);
+        }
+        moved = libc::read(STDIN_FILENO, part);
+        again += 1;
+    }
+    answer_of(moved, part)
 }
 
 pub fn read_all(text: &mut [u8]) -> Input
-    ensures { λ r. ⌜ r .bytes ≤ length (now (text .entry)) ⌝ }
+    ensures { λ r. ⌜ ReadInto (length (now (text .entry))) r ⌝ }
 {
     let mut at = 0;
     while at < text.len() {
-        let got = read_some(&mut text[at..]);
-        let n = got.bytes;
-        if n == 0 {
-            return Input {
-                bytes: at,
-                failed: got.failed,
-            };
+        let answer = read_some(&mut text[at..]);
+        let turn = turn_of(at, answer, text.len());
+        match turn {
+            Turn::On(next) => {
+                at = next;
+            }
+            Turn::Done(input) => {
+                return input;
+            }
         }
-        at += n;
     }
-    Input {
-        bytes: at,
-        failed: false,
-    }
+    Input::Full
 }

@@ -38,7 +38,7 @@ problemForm = threeParts isShortest isNumeral isNumeral problemOf
 
 -- "`a FROM TO LENGTH`": the parts after the `a`
 abbrev pub arcOf : List ℕ → List ℕ → List ℕ → Line
-arcOf from to length = Arc (record { from = decimal 0 from; to = decimal 0 to; length = decimal 0 length })
+arcOf from to weight = Arc (record { from = decimal 0 from; to = decimal 0 to; length = decimal 0 weight })
 
 abbrev pub arcForm : List (List ℕ) → Line
 arcForm = threeParts isNumeral isNumeral isNumeral arcOf

@@ -5,11 +5,11 @@ use Rattle.text.specs.Numeral.{digits, decimal}
 use Rattle.text.specs.Pieces.{cut, lines, placed, parts}
 use Rattle.road_form.specs.Forms.{formOf}
 use Rattle.road_table.specs.Table.{lengths, least, wordOf}
-use Rattle.road_text.specs.Reading.{follow, readingOf, arcsIn}
+use Rattle.road_text.specs.Reading.{follow, roadReadingOf, arcsIn}
 use Rattle.road_sheet.specs.claims.Borders.{Answers, Words}
 
 pub answers : Answers
-unfolding readingOf follow formOf digits decimal parts placed lines cut
+unfolding roadReadingOf follow formOf digits decimal parts placed lines cut
 answers = record {
   buffer-short = refl;
   buffer-long = refl;
@@ -53,7 +53,7 @@ answers = record {
 }
 
 pub words : Words
-unfolding readingOf follow formOf arcsIn wordOf lengths least digits decimal parts placed lines cut listOf
+unfolding roadReadingOf follow formOf arcsIn wordOf lengths least digits decimal parts placed lines cut listOf
 words = record {
   shortest = refl;
   stride = refl;

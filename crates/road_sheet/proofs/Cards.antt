@@ -11,20 +11,20 @@ use Rattle.text.specs.Joined.{joined}
 use Rattle.text.specs.Numeral.{decimal, digits, numeral}
 use Rattle.text.specs.Pieces.{cut, lines, placed, parts}
 use Rattle.road_form.specs.Forms.{formOf}
-use Rattle.road_text.specs.Reading.{accepted, follow, readingOf, arcsIn}
+use Rattle.road_text.specs.Reading.{accepted, follow, roadReadingOf, arcsIn}
 use Rattle.road_sheet.specs.Rows.{rowLine, tableText}
 use Rattle.road_sheet.specs.Sheet.{printed, roadSheetOf}
 use Rattle.road_sheet.specs.claims.Cards.{threePoints, farPoint, onePoint, RoadCards}
 use Rattle.road_sheet.proofs.Points.{road-table}
 
 -- The buffer's 16,384 words are not computed.
-accepted-text : (file : List ℕ) (n : ℕ) → n ≤ 128 → readingOf 16384 file ≡ accepted n
+accepted-text : (file : List ℕ) (n : ℕ) → n ≤ 128 → roadReadingOf 16384 file ≡ accepted n
     → roadSheetOf file ≡ tableText n (eliminated Distance n (listOf (n * n) (wordOf n (arcsIn (lines file)))))
 accepted-text file n h e = ap (printed file) e ∙ ap (λ (t : List ℕ). tableText n (eliminated Distance n t)) (road-table file n h e)
 
 pub road-cards : RoadCards
 unfolding listOf passes closure eliminated joined decimal digits numeral cut lines placed parts formOf lengths least wordOf follow
-    readingOf arcsIn rowLine tableText
+    roadReadingOf arcsIn rowLine tableText
 road-cards = record {
   three-points = accepted-text threePoints 3 (omega arith) refl;
   far = accepted-text farPoint 2 (omega arith) refl;

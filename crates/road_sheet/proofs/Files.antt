@@ -16,7 +16,7 @@ use Rattle.text.specs.inner.Put.{Put}
 use Rattle.text.proofs.Put.{put-as}
 use Rattle.road_text.specs.declared.answer.RoadAnswer.{RoadAnswer}
 use Rattle.road_text.specs.declared.answer.RoadAnswer.the-variants.{Points, Refused}
-use Rattle.road_text.specs.Reading.{accepted, readingOf, arcsIn, wordIn, tableAfter, answered, RoadRead}
+use Rattle.road_text.specs.Reading.{accepted, roadReadingOf, arcsIn, wordIn, tableAfter, answered, RoadRead}
 use Rattle.road_sheet.specs.Rows.{tableText, refusedText}
 use Rattle.road_sheet.specs.Sheet.{printed, roadSheetOf}
 use Rattle.road_sheet.specs.inner.Tables.{ToClose, Rooms}
@@ -25,8 +25,8 @@ use Rattle.road_sheet.proofs.Points.{table-words}
 
 module _ (file : List ℕ) {old closed : List ℕ} (asked : Rooms old closed) {answer : RoadAnswer} {table : List ℕ}
     (read : RoadRead (length old) file answer table) where
-  same-reading : readingOf (length old) file ≡ readingOf 16384 file
-  same-reading = ap (λ (m : ℕ). readingOf m file) (asked .table-room)
+  same-reading : roadReadingOf (length old) file ≡ roadReadingOf 16384 file
+  same-reading = ap (λ (m : ℕ). roadReadingOf m file) (asked .table-room)
 
   -- a refusal
   pub refusal-printed : {number : ℕ} → answer ≡ Refused number → {page page′ : List ℕ} {next : ℕ}
@@ -35,7 +35,7 @@ module _ (file : List ℕ) {old closed : List ℕ} (asked : Rooms old closed) {a
 
   -- n points: the parts of the buffers that are lent on
   module _ {n : ℕ} (e : answer ≡ Points n) where
-    reading : readingOf 16384 file ≡ accepted n
+    reading : roadReadingOf 16384 file ≡ accepted n
     reading = sym same-reading ∙ sym (read .outcome) ∙ ap answered e
 
     table-is : table ≡ tableAfter 16384 file
@@ -48,7 +48,7 @@ module _ (file : List ℕ) {old closed : List ℕ} (asked : Rooms old closed) {a
     words-room = cells-room points-most
 
     table-long : length table ≡ 16384
-    table-long = ap length table-is ∙ length-listOf 16384 (wordIn (readingOf 16384 file) (arcsIn (lines file)))
+    table-long = ap length table-is ∙ length-listOf 16384 (wordIn (roadReadingOf 16384 file) (arcsIn (lines file)))
 
     pub table-within : n * n ≤ length table
     table-within = omega (arith, table-long, square-fits points-most)

@@ -15,7 +15,7 @@ use Rattle.text.specs.Pieces.{lines}
 use Rattle.road_form.specs.declared.forms.Arc.{Arc as ArcSaid}
 use Rattle.road_table.specs.Table.{lengths, least, entry, wordOf}
 use Rattle.road_table.proofs.Shortest.{least-most}
-use Rattle.road_text.specs.Reading.{Reading, refused, accepted, readingOf, arcsIn, wordIn, tableAfter}
+use Rattle.road_text.specs.Reading.{RoadReading, refused, accepted, roadReadingOf, arcsIn, wordIn, tableAfter}
 use Rattle.road_sheet.specs.Sheet.{roadTable}
 
 -- Every word of a table is at most none.
@@ -31,7 +31,7 @@ word-most n arcs q = outer (ltb q (n * n))
     outer true = inner (eqb (q / n + 1) (q % n + 1)) (lengths (q / n + 1) (q % n + 1) arcs)
     outer false = omega arith
 
-in-most : (r : Reading) (arcs : List ArcSaid) (q : ℕ) → wordIn r arcs q ≤ 65535
+in-most : (r : RoadReading) (arcs : List ArcSaid) (q : ℕ) → wordIn r arcs q ≤ 65535
 in-most (refused number) arcs q = omega arith
 in-most (accepted points) arcs q = word-most points arcs q
 
@@ -55,7 +55,7 @@ front-most k l most p = by (decLt p k)
 pub table-words : (k m : ℕ) (file : List ℕ) (p : ℕ) → getD (take k (tableAfter m file)) p 0 ≤ 65535
 table-words k m file =
     front-most k (tableAfter m file)
-    (listed-most m (wordIn (readingOf m file) (arcsIn (lines file))) (in-most (readingOf m file) (arcsIn (lines file))))
+    (listed-most m (wordIn (roadReadingOf m file) (arcsIn (lines file))) (in-most (roadReadingOf m file) (arcsIn (lines file))))
 
 -- The table itself is the one of the file's arcs.
 front-listed : (k m : ℕ) (f : ℕ → ℕ) → k ≤ m → take k (listOf m f) ≡ listOf k f
@@ -63,8 +63,8 @@ front-listed k m f h =
     let long : length (take k (listOf m f)) ≡ k = length-take-le k (listOf m f) (rw (length-listOf m f) h) in
     is-listOf k f (take k (listOf m f)) long (λ p g. getD-take k (listOf m f) p 0 g ∙ getD-listOf m f p (omega arith))
 
-pub road-table : (file : List ℕ) (n : ℕ) → n ≤ 128 → readingOf 16384 file ≡ accepted n
+pub road-table : (file : List ℕ) (n : ℕ) → n ≤ 128 → roadReadingOf 16384 file ≡ accepted n
     → roadTable n file ≡ listOf (n * n) (wordOf n (arcsIn (lines file)))
 road-table file n h e =
-    front-listed (n * n) 16384 (wordIn (readingOf 16384 file) (arcsIn (lines file))) (square-fits h)
-    ∙ ap (λ (r : Reading). listOf (n * n) (wordIn r (arcsIn (lines file)))) e
+    front-listed (n * n) 16384 (wordIn (roadReadingOf 16384 file) (arcsIn (lines file))) (square-fits h)
+    ∙ ap (λ (r : RoadReading). listOf (n * n) (wordIn r (arcsIn (lines file)))) e

@@ -16,7 +16,7 @@ use Rattle.text.specs.Page.{overwritten}
 use Rattle.text.proofs.Lengths.{joined-most}
 use Rattle.text.proofs.Numerals.{numeral-most}
 use Rattle.text.proofs.Words.{unless-length}
-use Rattle.road_text.specs.Reading.{Reading, refused, accepted, readingOf}
+use Rattle.road_text.specs.Reading.{RoadReading, refused, accepted, roadReadingOf}
 use Rattle.road_sheet.specs.Rows.{shownWord, afterWord, entryText, rowLine, tableText, refusedText}
 use Rattle.road_sheet.specs.Sheet.{closedTable, printed, roadSheetOf}
 use Rattle.road_sheet.specs.claims.Shown.{pageBytes, Room}
@@ -47,14 +47,14 @@ module _ (n : ℕ) (table : List ℕ) where
   unfolding tableText
   table-length = joined-most n (rowLine n table) (n * 6) row-length
 
-room-by : (file : List ℕ) (r : Reading) → readingOf 16384 file ≡ r → length (printed file r) ≤ pageBytes
+room-by : (file : List ℕ) (r : RoadReading) → roadReadingOf 16384 file ≡ r → length (printed file r) ≤ pageBytes
 room-by file (refused number) e = omega (arith, refused-length number)
 room-by file (accepted n) e =
     let most : n ≤ 128 = accepted-points 16384 file n e .1 in
     omega (arith, table-length n (closedTable n file), square-fits most)
 
 pub room : Room
-room file = room-by file (readingOf 16384 file) refl
+room file = room-by file (roadReadingOf 16384 file) refl
 
 -- What is printed on a page with that room: the whole text.
 module _ (file page : List ℕ) (long : length page ≡ pageBytes) {n : ℕ} (outcome : n ≡ min (length page) (length (roadSheetOf file))) where

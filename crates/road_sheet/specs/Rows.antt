@@ -1,4 +1,5 @@
--- K7, the program `road`: "its closed table on standard output, one row a line (`-` for none), or `(refused NUMBER)`".
+-- The program `road` over request K7, whose output no paper lays down: the closed table, one row a line, `-` for none as in document 01, or
+-- `(refused NUMBER)`.
 use Prim.Native.Nat.{ℕ, _+_}
 use mathlib.Core.List.{List, _++_}
 use mathlib.Core.Bool.{cond}
@@ -10,7 +11,7 @@ use Rattle.text.specs.Ascii.{ascii}
 use Rattle.text.specs.Joined.{joined}
 use Rattle.text.specs.Numeral.{shown}
 
--- "`-` for none"
+-- `-` for none, a numeral for any other.
 abbrev pub shownWord : ℕ → List ℕ
 shownWord w = cond (eqb w (noneOf Distance)) (ascii "-") (shown w)
 
@@ -26,10 +27,10 @@ entryText n table i j = shownWord (entries n table i j) ++ afterWord n j
 unfoldable pub rowLine : ℕ → List ℕ → ℕ → List ℕ
 rowLine n table i = joined n (entryText n table i)
 
--- "one row a line"
+-- One row a line.
 unfoldable pub tableText : ℕ → List ℕ → List ℕ
 tableText n table = joined n (rowLine n table)
 
--- "or `(refused NUMBER)`", a line too
+-- A refusal is a line too.
 abbrev pub refusedText : ℕ → List ℕ
 refusedText number = ascii "(refused " ++ shown number ++ ascii ")\n"

@@ -36,6 +36,7 @@ module _ (i j : ℕ) where
   shortest-nil = record {
     no-shorter = λ g. absurd (List·Memᴰ·not-nil (g .there));
     one-of = inr (refl, λ g. List·Memᴰ·not-nil (g .there));
+    never-none = λ g. absurd (List·Memᴰ·not-nil (g .there));
   }
 
   with-joined : (a : Arc) (arcs : List Arc) (w : ℕ) → a .from ≡ i → a .to ≡ j → w ≤ 65535 → Shortest arcs i j w → Shortest (a ∷ arcs) i j (min (held (a .length)) w)
@@ -48,6 +49,7 @@ module _ (i j : ℕ) where
         omega arith)
         (split a arcs g);
     one-of = pick (decLe (held (a .length)) w);
+    never-none = λ g e. omega arith;
   }
     where
       here : Joining (a ∷ arcs) i j
@@ -68,6 +70,7 @@ module _ (i j : ℕ) where
         ⊎-elim (λ (h : (g : Joining arcs i j) × (w ≡ held (g .arc .length))). inl (tail-of a arcs (h .0), h .1))
         (λ (h : (w ≡ 65535) × (Joining arcs i j → ⊥)). inr (h .0, λ g. none g (h .1) (split a arcs g)))
         (s .one-of);
+    never-none = λ g e. omega (arith, back g (split a arcs g), e);
   }
     where
       never : (g : Joining (a ∷ arcs) i j) → g .arc ≡ a → ⊥

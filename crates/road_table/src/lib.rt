@@ -49,13 +49,13 @@ pub fn begin(table: &mut [u16], points: usize)
 }
 
 // The length of an arc as a word: far from 65534 on.
-fn held_length(length: u64) -> u16
-    ensures { λ r. ⌜ r ≡ held length ⌝ }
+fn held_length(weight: u64) -> u16
+    ensures { λ r. ⌜ r ≡ held weight ⌝ }
 {
-    if 65534 < length {
+    if 65534 < weight {
         return 65534;
     }
-    length as u16
+    weight as u16
 }
 
 // One arc more. An arc from a point to itself meets the 0 of the diagonal, which stands.

@@ -28,12 +28,12 @@ use Rattle.road_text.specs.declared.progress.Progress.{Progress}
 use Rattle.road_text.specs.declared.progress.Next.{Next}
 use Rattle.road_text.specs.declared.progress.Next.the-variants.{On, Stop}
 use Rattle.road_text.specs.Steps.{start, after, endTests}
-use Rattle.road_text.specs.Reading.{Reading, refused, accepted, unless, follow, arcsOf, arcsIn}
+use Rattle.road_text.specs.Reading.{RoadReading, refused, accepted, unless, follow, arcsOf, arcsIn}
 use Rattle.road_text.specs.inner.Kept.{Ready, Kept, Passed, Stepped, Ended, Filled, Followed}
 use Rattle.road_text.proofs.Turns.{not-zero}
 
 -- tests that gave a number, and tests that gave none
-pub unless-some : (k : ℕ) (r : Reading) → k ≢ 0 → unless k r ≡ refused k
+pub unless-some : (k : ℕ) (r : RoadReading) → k ≢ 0 → unless k r ≡ refused k
 unless-some zero r h = absurd (h refl)
 unless-some (suc k) r h = refl
 
@@ -162,7 +162,7 @@ module _ {file table₀ table : List ℕ} {s : Progress} {from : ℕ} (r : Reach
           = sym (unless-some k (follow later (after s (formOf line))) some)
           ∙ ap (λ (x : ℕ). unless x (follow later (after s (formOf line)))) (sym number)
           ∙ followed-one in
-          record { size = size ∙ r .kept .room; outcome = is; memory = subst (λ (x : Reading). Filled x (arcsIn (lines file)) new) is tt }
+          record { size = size ∙ r .kept .room; outcome = is; memory = subst (λ (x : RoadReading). Filled x (arcsIn (lines file)) new) is tt }
 
   -- all lines
   pub reached-end : {answer : RoadAnswer} → length file ≤ from → Ended s answer → Followed file answer table
@@ -179,4 +179,4 @@ module _ {file table₀ table : List ℕ} {s : Progress} {from : ℕ} (r : Reach
       all = sym (append-nil (r .seen)) ∙ ap (λ (ls : List (List ℕ)). r .seen ++ arcsIn ls) (sym none) ∙ sym (r .arcs)
 
       filled : Filled (follow (lines file) start) (arcsIn (lines file)) table
-      filled = subst (λ (x : Reading). Filled x (arcsIn (lines file)) table) whole (subst (λ (arcs : List Arc). Filled (follow [] s) arcs table) all (end-filled s (r .kept .holds)))
+      filled = subst (λ (x : RoadReading). Filled x (arcsIn (lines file)) table) whole (subst (λ (arcs : List Arc). Filled (follow [] s) arcs table) all (end-filled s (r .kept .holds)))

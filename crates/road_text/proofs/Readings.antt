@@ -12,43 +12,43 @@ use Rattle.road_table.proofs.Words.{all-held, all-zero}
 use Rattle.road_text.specs.declared.answer.RoadAnswer.{RoadAnswer}
 use Rattle.road_text.specs.declared.answer.RoadAnswer.the-variants.{Points, Refused}
 use Rattle.road_text.specs.Steps.{start}
-use Rattle.road_text.specs.Reading.{Reading, refused, accepted, follow, readingOf, arcsIn, wordIn, answered, RoadRead, numberIn, pointsAfter, RoadReadHost}
+use Rattle.road_text.specs.Reading.{RoadReading, refused, accepted, follow, roadReadingOf, arcsIn, wordIn, answered, RoadRead, numberIn, pointsAfter, RoadReadHost}
 use Rattle.road_text.specs.inner.Kept.{Filled, Followed, Owed}
 
 -- `read_cleared`
 module _ {file : List ℕ} {answer : RoadAnswer} {l : List ℕ} (f : Followed file answer l) where
   pub owed-points : {n : ℕ} → answer ≡ Points n → Owed file (Points n) l
-  owed-points {n} e = record { outcome = is; memory = subst (λ (x : Reading). l ≡ listOf 16384 (wordIn x (arcsIn (lines file)))) is (all-held (f .size) held) }
+  owed-points {n} e = record { outcome = is; memory = subst (λ (x : RoadReading). l ≡ listOf 16384 (wordIn x (arcsIn (lines file)))) is (all-held (f .size) held) }
     where
       is : accepted n ≡ follow (lines file) start
       is = sym (ap answered e) ∙ f .outcome
 
       held : Filled (accepted n) (arcsIn (lines file)) l
-      held = subst (λ (x : Reading). Filled x (arcsIn (lines file)) l) (sym is) (f .memory)
+      held = subst (λ (x : RoadReading). Filled x (arcsIn (lines file)) l) (sym is) (f .memory)
 
   pub owed-refused : {k : ℕ} {new : List ℕ} → answer ≡ Refused k → Cleared (length l) new → Owed file (Refused k) new
   owed-refused {k} {new} e c =
       let is : refused k ≡ follow (lines file) start = sym (ap answered e) ∙ f .outcome in
       record {
         outcome = is;
-        memory = subst (λ (x : Reading). new ≡ listOf 16384 (wordIn x (arcsIn (lines file)))) is
+        memory = subst (λ (x : RoadReading). new ≡ listOf 16384 (wordIn x (arcsIn (lines file)))) is
             (all-zero c ∙ ap (λ (m : ℕ). listOf m (λ q. 0)) (f .size));
       }
 
 -- `read_road`, with a buffer of m words
-unfit : (m : ℕ) (file : List ℕ) → m ≢ 16384 → refused 21 ≡ readingOf m file
-unfolding readingOf
+unfit : (m : ℕ) (file : List ℕ) → m ≢ 16384 → refused 21 ≡ roadReadingOf m file
+unfolding roadReadingOf
 unfit m file h = rw (ne-eqb m 16384 h)
 
-fit : (m : ℕ) (file : List ℕ) → m ≡ 16384 → follow (lines file) start ≡ readingOf m file
-unfolding readingOf
+fit : (m : ℕ) (file : List ℕ) → m ≡ 16384 → follow (lines file) start ≡ roadReadingOf m file
+unfolding roadReadingOf
 fit m file h = rw (eq-eqb m 16384 h)
 
 module _ {m : ℕ} {zeros : List ℕ} (c : Cleared m zeros) where
   pub wrong-buffer : {file : List ℕ} → length zeros ≢ 16384 → RoadRead m file (Refused 21) zeros
   wrong-buffer {file} h =
-      let is : refused 21 ≡ readingOf m file = unfit m file (λ e. h (c .size ∙ e)) in
-      record { outcome = is; memory = subst (λ (x : Reading). zeros ≡ listOf m (wordIn x (arcsIn (lines file)))) is (all-zero c) }
+      let is : refused 21 ≡ roadReadingOf m file = unfit m file (λ e. h (c .size ∙ e)) in
+      record { outcome = is; memory = subst (λ (x : RoadReading). zeros ≡ listOf m (wordIn x (arcsIn (lines file)))) is (all-zero c) }
 
   pub right-zeros : length zeros ≡ 16384 → Cleared 16384 zeros
   right-zeros e = record { size = e; zeros = c .zeros }
@@ -56,20 +56,20 @@ module _ {m : ℕ} {zeros : List ℕ} (c : Cleared m zeros) where
   pub right-buffer : {file : List ℕ} {r : RoadAnswer} {l : List ℕ} → length zeros ≡ 16384 → Owed file r l → RoadRead m file r l
   right-buffer {file} {r} {l} e o =
       let size : m ≡ 16384 = sym (c .size) ∙ e in
-      let is : follow (lines file) start ≡ readingOf m file = fit m file size in
+      let is : follow (lines file) start ≡ roadReadingOf m file = fit m file size in
       record {
         outcome = o .outcome ∙ is;
-        memory = o .memory ∙ ap₂ (λ (n : ℕ) (x : Reading). listOf n (wordIn x (arcsIn (lines file)))) (sym size) is;
+        memory = o .memory ∙ ap₂ (λ (n : ℕ) (x : RoadReading). listOf n (wordIn x (arcsIn (lines file)))) (sym size) is;
       }
 
 -- `road_read`
 module _ {m : ℕ} {file : List ℕ} {answer : RoadAnswer} {l : List ℕ} (r : RoadRead m file answer l) where
   pub host-points : {n old : ℕ} → answer ≡ Points n → RoadReadHost m file 0 old n l
   host-points {n} {old} e =
-      let is : accepted n ≡ readingOf m file = sym (ap answered e) ∙ r .outcome in
-      record { outcome = ap numberIn is; points = ap (λ (x : Reading). pointsAfter x old) is; memory = r .memory }
+      let is : accepted n ≡ roadReadingOf m file = sym (ap answered e) ∙ r .outcome in
+      record { outcome = ap numberIn is; points = ap (λ (x : RoadReading). pointsAfter x old) is; memory = r .memory }
 
   pub host-refused : {k old : ℕ} → answer ≡ Refused k → RoadReadHost m file k old old l
   host-refused {k} {old} e =
-      let is : refused k ≡ readingOf m file = sym (ap answered e) ∙ r .outcome in
-      record { outcome = ap numberIn is; points = ap (λ (x : Reading). pointsAfter x old) is; memory = r .memory }
+      let is : refused k ≡ roadReadingOf m file = sym (ap answered e) ∙ r .outcome in
+      record { outcome = ap numberIn is; points = ap (λ (x : RoadReading). pointsAfter x old) is; memory = r .memory }

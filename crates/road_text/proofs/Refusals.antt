@@ -14,7 +14,7 @@ use Rattle.road_form.specs.declared.forms.Line.the-variants.{Comment, Problem, 
 use Rattle.road_form.specs.Forms.{formOf}
 use Rattle.road_text.specs.declared.progress.Progress.{Progress}
 use Rattle.road_text.specs.Steps.{start, lineTests, after, endTests}
-use Rattle.road_text.specs.Reading.{Reading, accepted, unless, follow, bufferTests, readingOf}
+use Rattle.road_text.specs.Reading.{RoadReading, accepted, unless, follow, bufferTests, roadReadingOf}
 use Rattle.road_text.specs.claims.Refusals.{
   bufferConditions,
   FormFault,
@@ -103,7 +103,7 @@ lines-given s (l ∷ ls) = by (first 0 (lineTests s (formOf l))) (line-exactly s
     by zero r rest = line-passed r rest
     by (suc k) r rest = line-refused r
 
-lines-only : {s : Progress} {ls : List (List ℕ)} {r : Reading} → ByLines s ls r → follow ls s ≡ r
+lines-only : {s : Progress} {ls : List (List ℕ)} {r : RoadReading} → ByLines s ls r → follow ls s ≡ r
 unfolding follow
 lines-only (line-refused {s} {l} {ls} {k} r) = rw (line-exactly s (formOf l) .only (suc k) r)
 lines-only (line-passed {s} {l} r rest) = rw (line-exactly s (formOf l) .only 0 r) (lines-only rest)
@@ -111,16 +111,16 @@ lines-only (end-refused {s} {k} r) = rw (end-exactly s .only (suc k) r)
 lines-only (end-passed {s} r) = rw (end-exactly s .only 0 r)
 
 module _ (m : ℕ) (file : List ℕ) where
-  given : ByTable m file (readingOf m file)
-  unfolding readingOf
+  given : ByTable m file (roadReadingOf m file)
+  unfolding roadReadingOf
   given = by (first 0 (bufferTests m)) (buffer-exactly m .returned)
     where
       by : (k : ℕ) → Returns (bufferConditions m) k → ByTable m file (unless k (follow (lines file) start))
       by zero r = by-lines r (lines-given start (lines file))
       by (suc k) r = buffer-refused r
 
-  only : (r : Reading) → ByTable m file r → readingOf m file ≡ r
-  unfolding readingOf
+  only : (r : RoadReading) → ByTable m file r → roadReadingOf m file ≡ r
+  unfolding roadReadingOf
   only r (buffer-refused {k} h) = rw (buffer-exactly m .only (suc k) h)
   only r (by-lines h t) = rw (buffer-exactly m .only 0 h) (lines-only t)
 

@@ -22,10 +22,10 @@ use Rattle.road_table.proofs.Words.{word-at, word-past, in-square}
 use Rattle.road_table.proofs.Shortest.{each-shortest}
 use Rattle.road_text.specs.declared.progress.Progress.{Progress}
 use Rattle.road_text.specs.Steps.{start, lineTests, after, endTests}
-use Rattle.road_text.specs.Reading.{Reading, accepted, unless, follow, bufferTests, readingOf, arcsIn}
-use Rattle.road_text.specs.claims.Whole.{InRange, ArcLines, ends, comment-between, arc, RoadLines, comment-before, problem, wordAt, Roads, Whole}
+use Rattle.road_text.specs.Reading.{RoadReading, accepted, unless, follow, bufferTests, roadReadingOf, arcsIn}
+use Rattle.road_text.specs.claims.Whole.{InRange, ArcLines, ends, comment-between, arc, RoadLines, comment-before, problem, wordAt, Roads, Road-whole}
 
-passed : (k : ℕ) (r : Reading) (n : ℕ) → unless k r ≡ accepted n → (k ≡ 0) × (r ≡ accepted n)
+passed : (k : ℕ) (r : RoadReading) (n : ℕ) → unless k r ≡ accepted n → (k ≡ 0) × (r ≡ accepted n)
 passed zero r n e = (refl, e)
 passed (suc k) r n e = let z : _≡_ {A = ℕ} 0 1 = cc in absurd (omega arith)
 
@@ -94,15 +94,15 @@ road-lines (l ∷ ls) s n none e =
     let (clear, is) = passed (first 0 (lineTests s (formOf l))) (follow ls (after s (formOf l))) n e in
     road-by l ls s n none (formOf l) refl clear is (λ h. road-lines ls s n none h)
 
-lines-are : (m : ℕ) (file : List ℕ) (n : ℕ) → readingOf m file ≡ accepted n → RoadLines n (lines file)
-unfolding readingOf
+lines-are : (m : ℕ) (file : List ℕ) (n : ℕ) → roadReadingOf m file ≡ accepted n → RoadLines n (lines file)
+unfolding roadReadingOf
 lines-are m file n e = road-lines (lines file) start n refl (passed (first 0 (bufferTests m)) (follow (lines file) start) n e .1)
 
 points-of : {n : ℕ} {ls : List (List ℕ)} → RoadLines n ls → InRange 128 n
 points-of (comment-before e r) = points-of r
 points-of (problem e h a) = h
 
-pub accepted-points : (m : ℕ) (file : List ℕ) (n : ℕ) → readingOf m file ≡ accepted n → InRange 128 n
+pub accepted-points : (m : ℕ) (file : List ℕ) (n : ℕ) → roadReadingOf m file ≡ accepted n → InRange 128 n
 accepted-points m file n e = points-of (lines-are m file n e)
 
 -- And back: such lines are accepted.
@@ -127,8 +127,8 @@ road-accepted {n} (problem {arcs = m} e h a) =
     let range : outside 1 128 n ≡ false = within 1 128 n (h .0) (h .1) in
     rw (e, range) (arcs-accepted a (after start (Problem n m)) refl (h .0) (omega arith))
 
-accepts : (file : List ℕ) (n : ℕ) → RoadLines n (lines file) → readingOf 16384 file ≡ accepted n
-unfolding readingOf
+accepts : (file : List ℕ) (n : ℕ) → RoadLines n (lines file) → roadReadingOf 16384 file ≡ accepted n
+unfolding roadReadingOf
 accepts file n r = road-accepted r
 
 -- The words of its table.
@@ -154,9 +154,9 @@ module _ (n : ℕ) (arcs : List ArcSaid) (few : n ≤ 128) where
     rest = λ q h k. getD-listOf 16384 (wordOf n arcs) q k ∙ word-past n arcs q h;
   }
 
-pub whole : Whole
+pub road-whole : Road-whole
 unfolding all
-whole file n = record {
+road-whole file n = record {
   lines-are = lines-are 16384 file n;
   accepts = accepts file n;
   roads = λ e. rw e (roads n (arcsIn (lines file)) (accepted-points 16384 file n e .1));

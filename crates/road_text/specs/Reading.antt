@@ -18,17 +18,17 @@ use Rattle.road_text.specs.declared.progress.Progress.{Progress}
 use Rattle.road_text.specs.Steps.{start, lineTests, after, endTests}
 
 -- The number of a refusal, or POINTS.
-pub data Reading : Type 0 where
-  refused : ℕ → Reading
-  accepted : ℕ → Reading
+pub data RoadReading : Type 0 where
+  refused : ℕ → RoadReading
+  accepted : ℕ → RoadReading
 
 -- What follows tests that gave a number, 0 for none.
-abbrev pub unless : ℕ → Reading → Reading
+abbrev pub unless : ℕ → RoadReading → RoadReading
 unless zero r = r
 unless (suc k) r = refused (suc k)
 
 -- Line by line, and then the end, after what has been read.
-unfoldable pub follow : List (List ℕ) → Progress → Reading
+unfoldable pub follow : List (List ℕ) → Progress → RoadReading
 follow [] s = unless (first 0 (endTests s)) (accepted (s .points))
 follow (l ∷ ls) s = unless (first 0 (lineTests s (formOf l))) (follow ls (after s (formOf l)))
 
@@ -37,8 +37,8 @@ abbrev pub bufferTests : ℕ → List (Bool × ℕ)
 bufferTests m = (not (eqb m 16384), 21) ∷ []
 
 -- What a file gives with a buffer of m words. "one LF a line, the last may lack it"
-unfoldable pub readingOf : ℕ → List ℕ → Reading
-readingOf m file = unless (first 0 (bufferTests m)) (follow (lines file) start)
+unfoldable pub roadReadingOf : ℕ → List ℕ → RoadReading
+roadReadingOf m file = unless (first 0 (bufferTests m)) (follow (lines file) start)
 
 abbrev pub arcsOf : Line → List ArcSaid
 arcsOf Comment = []
@@ -52,34 +52,34 @@ arcsIn [] = []
 arcsIn (l ∷ ls) = arcsOf (formOf l) ++ arcsIn ls
 
 -- "a refusal .. zeroes it at any length, else its first POINTS² words are the table, row by row, the rest zero": word q
-abbrev pub wordIn : Reading → List ArcSaid → ℕ → ℕ
+abbrev pub wordIn : RoadReading → List ArcSaid → ℕ → ℕ
 wordIn (refused number) arcs q = 0
 wordIn (accepted points) arcs q = wordOf points arcs q
 
 -- The buffer of m words after the call.
 abbrev pub tableAfter : ℕ → List ℕ → List ℕ
-tableAfter m file = listOf m (wordIn (readingOf m file) (arcsIn (lines file)))
+tableAfter m file = listOf m (wordIn (roadReadingOf m file) (arcsIn (lines file)))
 
 -- What an answer says: "POINTS is returned", or the refusal's number.
-abbrev pub answered : RoadAnswer → Reading
+abbrev pub answered : RoadAnswer → RoadReading
 answered (Points n) = accepted n
 answered (Refused number) = refused number
 
 -- The contract of the call: its answer, and every word of the buffer after it.
 pub record RoadRead (m : ℕ) (file : List ℕ) (r : RoadAnswer) (table : List ℕ) : Type 0 where
-  pub outcome : answered r ≡ readingOf m file
+  pub outcome : answered r ≡ roadReadingOf m file
   pub memory : table ≡ tableAfter m file
 
 -- For other languages: 0 and POINTS written, or the number and `points` left.
-abbrev pub numberIn : Reading → ℕ
+abbrev pub numberIn : RoadReading → ℕ
 numberIn (refused number) = number
 numberIn (accepted points) = 0
 
-abbrev pub pointsAfter : Reading → ℕ → ℕ
+abbrev pub pointsAfter : RoadReading → ℕ → ℕ
 pointsAfter (refused number) old = old
 pointsAfter (accepted points) old = points
 
 pub record RoadReadHost (m : ℕ) (file : List ℕ) (number old new : ℕ) (table : List ℕ) : Type 0 where
-  pub outcome : number ≡ numberIn (readingOf m file)
-  pub points : new ≡ pointsAfter (readingOf m file) old
+  pub outcome : number ≡ numberIn (roadReadingOf m file)
+  pub points : new ≡ pointsAfter (roadReadingOf m file) old
   pub memory : table ≡ tableAfter m file

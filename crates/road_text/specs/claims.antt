@@ -1,3 +1,4 @@
 -- What is claimed of the reader.
 pub mod Whole
 pub mod Refusals
+pub mod Memory

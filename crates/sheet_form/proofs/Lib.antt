@@ -7,3 +7,4 @@ pub mod Rows
 pub mod Sizes
 pub mod Solid
 pub mod WholeRun
+pub mod Longer

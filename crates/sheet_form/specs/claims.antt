@@ -4,3 +4,4 @@ pub mod Demand
 pub mod None
 pub mod Numbers
 pub mod Sizes
+pub mod Longer

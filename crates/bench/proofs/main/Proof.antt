@@ -1,7 +1,6 @@
--- `main` is safe: the bytes that were read are within the room for them.
-use mathlib.Core.Path.{sym}
-use lib.Seq.{length-take-le}
+-- `main` hands on what it read, with the room that it read it into.
 use borrow.Author.Needs.{needs}
+use Rattle.bench.proofs.Parts.{in-room}
 use Rattle.bench.proofs.main.Statement.{statement}
 use Rattle.bench.proofs.main.Tie as tie
 
@@ -13,9 +12,5 @@ main-spec =
     (λ c. search needs)
     (λ c κs. search needs)
     (λ c. search needs)
-    (λ c κs. search needs)
-    (λ c. search needs)
-    (λ c. search needs)
-    (λ c. sym (length-take-le _ _ (search needs)))
-    (λ c κs. search needs)
+    (λ c κs. search in-room)
     (λ c. search needs))

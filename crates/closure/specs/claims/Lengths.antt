@@ -1,17 +1,19 @@
 -- K4: "In distance, the product of two words that aren't none is now held at 65534, which means 65534 or more; none comes only from
 -- none." So a closed table of distance says: the length of a shortest way, held at 65534, and none only where every way has a link of
 -- none.
-use Prim.Native.Nat.{ℕ, _+_, _≤_, _<_, min}
+use Prim.Native.Nat.{ℕ, _+_, _*_, _≤_, _<_, min}
 use mathlib.Core.Path.{_≡_}
 use mathlib.Core.Logic.{_≢_}
 use mathlib.Core.List.{List, [], _∷_}
+use lib.ListN.{getD}
 use Rattle.semiring.specs.Algebra.{noneOf, far}
+use Rattle.semiring.specs.Named.{namedOf}
 use Rattle.semiring.specs.declared.Named.the-variants.{Known}
 use Rattle.semiring.specs.declared.Algebra.the-variants.{Distance}
 use Rattle.closure.specs.Table.{Table, entries, withOwn}
 use Rattle.closure.specs.Elimination.{closure}
 use Rattle.closure.specs.Ways.{Way}
-use Rattle.closure.specs.Tests.{eliminationTests}
+use Rattle.closure.specs.Tests.{eliminationTests, resultAfter}
 
 -- No link of the list is the none word.
 unfoldable pub AllLinked : Table → List ℕ → Type 0
@@ -35,3 +37,10 @@ abbrev pub Lengths : Type 0
 Lengths =
     (n : ℕ) (w r : List ℕ) → eliminationTests (Known Distance) n w r ≡ 0
     → (i j : ℕ) → i < n → j < n → Shortest n (withOwn Distance (entries n w)) i j (closure Distance n w i j)
+
+-- The same of the words that an accepted call in distance, which is algebra 1, leaves in the result.
+abbrev pub Lengths-result : Type 0
+Lengths-result =
+    (n : ℕ) (w r : List ℕ) → eliminationTests (namedOf 1) n w r ≡ 0
+    → (i j : ℕ) → i < n → j < n
+    → Shortest n (withOwn Distance (entries n w)) i j (getD (resultAfter (namedOf 1) n w r) (i * n + j) 0)

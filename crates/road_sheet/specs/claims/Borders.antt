@@ -5,18 +5,18 @@ use mathlib.Core.List.{List, [], _∷_}
 use Rattle.memory.specs.Lists.{listOf}
 use Rattle.text.specs.Ascii.{ascii}
 use Rattle.text.specs.Pieces.{lines}
-use Rattle.road_text.specs.Reading.{Reading, refused, accepted, readingOf, arcsIn, wordIn}
+use Rattle.road_text.specs.Reading.{RoadReading, refused, accepted, roadReadingOf, arcsIn, wordIn}
 
-abbrev pub reading : List ℕ → Reading
-reading file = readingOf 16384 file
+abbrev pub reading : List ℕ → RoadReading
+reading file = roadReadingOf 16384 file
 
 -- the first m words
 abbrev pub words : ℕ → List ℕ → List ℕ
 words m file = listOf m (wordIn (reading file) (arcsIn (lines file)))
 
 pub record Answers : Type 0 where
-  pub buffer-short : readingOf 16383 (ascii "p sp 1 0") ≡ refused 21
-  pub buffer-long : readingOf 16385 (ascii "p sp 129 0") ≡ refused 21
+  pub buffer-short : roadReadingOf 16383 (ascii "p sp 1 0") ≡ refused 21
+  pub buffer-long : roadReadingOf 16385 (ascii "p sp 129 0") ≡ refused 21
   pub empty : reading [] ≡ refused 21
   pub only-comments : reading (ascii "c\ncat\nc  \n") ≡ refused 21
   pub comments-anywhere : reading (ascii "c\ncat\np sp 2 1\nc  a 1 2 3\r\na 1 2 3\nc") ≡ accepted 2

@@ -10,7 +10,7 @@ use Rattle.closure.specs.Elimination.{closure}
 use Rattle.closure.specs.Table.{entries}
 use Rattle.text.specs.Ascii.{ascii}
 use Rattle.text.specs.claims.Numerals.{NumeralOf}
-use Rattle.road_text.specs.Reading.{accepted, readingOf}
+use Rattle.road_text.specs.Reading.{accepted, roadReadingOf}
 use Rattle.road_sheet.specs.Rows.{shownWord, tableText}
 use Rattle.road_sheet.specs.Sheet.{roadTable, closedTable, roadSheetOf}
 
@@ -32,7 +32,7 @@ pub record Shown (n : ℕ) (file : List ℕ) : Type 0 where
       → NumeralOf (closedWord n file i j) (shownWord (closedWord n file i j))
 
 abbrev pub Road-sheet : Type 0
-Road-sheet = (file : List ℕ) (n : ℕ) → readingOf 16384 file ≡ accepted n → Shown n file
+Road-sheet = (file : List ℕ) (n : ℕ) → roadReadingOf 16384 file ≡ accepted n → Shown n file
 
 -- A page's length: 128 rows of 128 words, each of at most 5 bytes with one after it.
 abbrev pub pageBytes : ℕ

@@ -15,10 +15,11 @@ pub record Joining (arcs : List Arc) (i j : ℕ) : Type 0 where
   pub from-i : arc .from ≡ i
   pub to-j : arc .to ≡ j
 
--- The word of a pair: no arc between them is shorter, and it is the length of one, or none where there is none.
+-- The word of a pair: no arc between them is shorter, and it is the length of one, or none where there is none; a pair that has an arc is never none.
 pub record Shortest (arcs : List Arc) (i j word : ℕ) : Type 0 where
   pub no-shorter : (g : Joining arcs i j) → word ≤ held (g .arc .length)
   pub one-of : ((g : Joining arcs i j) × (word ≡ held (g .arc .length))) ⊎ ((word ≡ noneOf Distance) × (Joining arcs i j → ⊥))
+  pub never-none : Joining arcs i j → word ≢ noneOf Distance
 
 abbrev pub Each-shortest : Type 0
 Each-shortest = (arcs : List Arc) (i j : ℕ) → i ≢ j → Shortest arcs i j (entry arcs i j)

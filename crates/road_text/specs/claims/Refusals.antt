@@ -11,7 +11,7 @@ use Rattle.road_form.specs.declared.forms.Line.the-variants.{Problem, Arc, Unkn
 use Rattle.road_form.specs.Forms.{formOf}
 use Rattle.road_text.specs.declared.progress.Progress.{Progress}
 use Rattle.road_text.specs.Steps.{start, after}
-use Rattle.road_text.specs.Reading.{Reading, refused, accepted, readingOf}
+use Rattle.road_text.specs.Reading.{RoadReading, refused, accepted, roadReadingOf}
 
 -- "A wrong buffer length .. is 21, the buffer first"
 unfoldable pub bufferConditions : ℕ → Conditions
@@ -38,21 +38,21 @@ unfoldable pub endConditions : Progress → Conditions
 endConditions s = test (s .points ≡ 0) 21 (test (s .count ≢ s .arcs) 23 otherwise)
 
 -- What the lines to come give, after those that led to s.
-pub data ByLines : Progress → List (List ℕ) → Reading → Type 0 where
+pub data ByLines : Progress → List (List ℕ) → RoadReading → Type 0 where
   line-refused : {s : Progress} {l : List ℕ} {ls : List (List ℕ)} {k : ℕ} → Returns (lineConditions s (formOf l)) (suc k)
       → ByLines s (l ∷ ls) (refused (suc k))
-  line-passed : {s : Progress} {l : List ℕ} {ls : List (List ℕ)} {r : Reading} → Returns (lineConditions s (formOf l)) 0
+  line-passed : {s : Progress} {l : List ℕ} {ls : List (List ℕ)} {r : RoadReading} → Returns (lineConditions s (formOf l)) 0
       → ByLines (after s (formOf l)) ls r → ByLines s (l ∷ ls) r
   end-refused : {s : Progress} {k : ℕ} → Returns (endConditions s) (suc k) → ByLines s [] (refused (suc k))
   end-passed : {s : Progress} → Returns (endConditions s) 0 → ByLines s [] (accepted (s .points))
 
-pub data ByTable (m : ℕ) (file : List ℕ) : Reading → Type 0 where
+pub data ByTable (m : ℕ) (file : List ℕ) : RoadReading → Type 0 where
   buffer-refused : {k : ℕ} → Returns (bufferConditions m) (suc k) → ByTable m file (refused (suc k))
-  by-lines : {r : Reading} → Returns (bufferConditions m) 0 → ByLines start (lines file) r → ByTable m file r
+  by-lines : {r : RoadReading} → Returns (bufferConditions m) 0 → ByLines start (lines file) r → ByTable m file r
 
 pub record ReadExactly (m : ℕ) (file : List ℕ) : Type 0 where
-  pub given : ByTable m file (readingOf m file)
-  pub only : (r : Reading) → ByTable m file r → readingOf m file ≡ r
+  pub given : ByTable m file (roadReadingOf m file)
+  pub only : (r : RoadReading) → ByTable m file r → roadReadingOf m file ≡ r
 
 abbrev pub Road-refusals : Type 0
 Road-refusals = (m : ℕ) (file : List ℕ) → ReadExactly m file

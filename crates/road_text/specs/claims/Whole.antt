@@ -9,7 +9,7 @@ use Rattle.road_form.specs.declared.forms.Arc.{Arc as ArcSaid}
 use Rattle.road_form.specs.declared.forms.Line.the-variants.{Comment, Problem, Arc}
 use Rattle.road_form.specs.Forms.{formOf}
 use Rattle.road_table.specs.claims.Shortest.{Shortest}
-use Rattle.road_text.specs.Reading.{accepted, readingOf, arcsIn, tableAfter}
+use Rattle.road_text.specs.Reading.{accepted, roadReadingOf, arcsIn, tableAfter}
 
 abbrev pub InRange : ℕ → ℕ → Type 0
 InRange n i = (1 ≤ i) × (i ≤ n)
@@ -39,9 +39,9 @@ pub record Roads (n : ℕ) (arcs : List ArcSaid) (table : List ℕ) : Type 0 whe
 
 -- A file is accepted with POINTS n exactly where its lines are such.
 pub record AcceptedExactly (file : List ℕ) (n : ℕ) : Type 0 where
-  pub lines-are : readingOf 16384 file ≡ accepted n → RoadLines n (lines file)
-  pub accepts : RoadLines n (lines file) → readingOf 16384 file ≡ accepted n
-  pub roads : readingOf 16384 file ≡ accepted n → Roads n (arcsIn (lines file)) (tableAfter 16384 file)
+  pub lines-are : roadReadingOf 16384 file ≡ accepted n → RoadLines n (lines file)
+  pub accepts : RoadLines n (lines file) → roadReadingOf 16384 file ≡ accepted n
+  pub roads : roadReadingOf 16384 file ≡ accepted n → Roads n (arcsIn (lines file)) (tableAfter 16384 file)
 
-abbrev pub Whole : Type 0
-Whole = (file : List ℕ) (n : ℕ) → AcceptedExactly file n
+abbrev pub Road-whole : Type 0
+Road-whole = (file : List ℕ) (n : ℕ) → AcceptedExactly file n

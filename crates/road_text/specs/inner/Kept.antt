@@ -15,7 +15,7 @@ use Rattle.road_text.specs.declared.progress.Progress.{Progress}
 use Rattle.road_text.specs.declared.progress.Next.{Next}
 use Rattle.road_text.specs.declared.progress.Next.the-variants.{On, Stop}
 use Rattle.road_text.specs.Steps.{start, lineTests, after}
-use Rattle.road_text.specs.Reading.{Reading, refused, accepted, follow, arcsOf, arcsIn, wordIn, answered}
+use Rattle.road_text.specs.Reading.{RoadReading, refused, accepted, follow, arcsOf, arcsIn, wordIn, answered}
 
 -- Room for a line more.
 pub record Ready (s : Progress) (l : List ℕ) : Type 0 where
@@ -46,7 +46,7 @@ pub record Ended (s : Progress) (r : RoadAnswer) : Type 0 where
   pub outcome : answered r ≡ follow [] s
 
 -- The table of a file whose lines have been read: of a refusal it is of no account.
-abbrev pub Filled : Reading → List Arc → List ℕ → Type 0
+abbrev pub Filled : RoadReading → List Arc → List ℕ → Type 0
 Filled (refused number) arcs l = Unit {0}
 Filled (accepted points) arcs l = Holds points arcs l
 

@@ -1,0 +1,3 @@
+pub mod Reads
+pub mod inner
+pub mod claims

@@ -1,0 +1,2 @@
+-- What the contracts of inner functions say.
+pub mod Told
