@@ -1,3 +1,5 @@
 pub mod ArrayCalls
 pub mod TracebackCalls
+pub mod RoadCalls
 pub mod Kept
+pub mod RoadKept

@@ -1,2 +1,3 @@
 pub mod ArrayCalls
+pub mod RoadCalls
 pub mod claims

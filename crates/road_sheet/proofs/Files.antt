@@ -14,6 +14,8 @@ use Rattle.closure.specs.Elimination.{eliminated}
 use Rattle.text.specs.Pieces.{lines}
 use Rattle.text.specs.inner.Put.{Put}
 use Rattle.text.proofs.Put.{put-as}
+use Rattle.refusals.specs.Reason.{reasonNumber}
+use Rattle.refusals.specs.declared.Reason.{Reason}
 use Rattle.road_text.specs.declared.answer.RoadAnswer.{RoadAnswer}
 use Rattle.road_text.specs.declared.answer.RoadAnswer.the-variants.{Points, Refused}
 use Rattle.road_text.specs.Reading.{accepted, roadReadingOf, arcsIn, wordIn, tableAfter, answered, RoadRead}
@@ -29,9 +31,10 @@ module _ (file : List ℕ) {old closed : List ℕ} (asked : Rooms old closed) {a
   same-reading = ap (λ (m : ℕ). roadReadingOf m file) (asked .table-room)
 
   -- a refusal
-  pub refusal-printed : {number : ℕ} → answer ≡ Refused number → {page page′ : List ℕ} {next : ℕ}
+  pub refusal-printed : {reason : Reason} {number : ℕ} → answer ≡ Refused reason → number ≡ reasonNumber reason → {page page′ : List ℕ} {next : ℕ}
       → Put page 0 (refusedText number) page′ next → Put page 0 (roadSheetOf file) page′ next
-  refusal-printed {number} e p = put-as p (ap (printed file) (sym (ap answered e) ∙ read .outcome ∙ same-reading))
+  refusal-printed e told p =
+      put-as p (ap refusedText told ∙ ap (printed file) (sym (ap answered e) ∙ read .outcome ∙ same-reading))
 
   -- n points: the parts of the buffers that are lent on
   module _ {n : ℕ} (e : answer ≡ Points n) where

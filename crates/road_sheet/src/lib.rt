@@ -15,6 +15,7 @@ mod rows;
 
 use paths::Closed;
 use paths::eliminate;
+use refusals::number;
 use road_text::RoadAnswer;
 use road_text::read_road;
 use rows::put_refused;
@@ -47,7 +48,7 @@ fn print_file(file: &[u8], page: &mut [u8], table: &mut [u16], closed: &mut [u16
             let words = n * n;
             print_closed(page, n, &table[..words], &mut closed[..words])
         }
-        RoadAnswer::Refused(number) => put_refused(page, number),
+        RoadAnswer::Refused(reason) => put_refused(page, number(reason)),
     }
 }
 

@@ -12,6 +12,9 @@ use borrow.Author.Tests.{leb-true}
 use mir.Syntax.{w64}
 use mir.Val.{Fits}
 use Rattle.refusals.specs.Tests.{first}
+use Rattle.refusals.specs.Reason.{reasonNumber}
+use Rattle.refusals.specs.declared.Reason.{Reason}
+use Rattle.refusals.proofs.Reasons.{reason-some}
 use Rattle.refusals.proofs.First.{First, answers}
 use Rattle.text.specs.Pieces.{cut, lines}
 use Rattle.text.proofs.Cuts.{first-line}
@@ -30,18 +33,22 @@ use Rattle.road_text.specs.declared.progress.Next.the-variants.{On, Stop
 use Rattle.road_text.specs.Steps.{start, after, endTests}
 use Rattle.road_text.specs.Reading.{RoadReading, refused, accepted, unless, follow, arcsOf, arcsIn}
 use Rattle.road_text.specs.inner.Kept.{Ready, Kept, Passed, Stepped, Ended, Filled, Followed}
-use Rattle.road_text.proofs.Turns.{not-zero}
 
 -- tests that gave a number, and tests that gave none
-pub unless-some : (k : ℕ) (r : RoadReading) → k ≢ 0 → unless k r ≡ refused k
-unless-some zero r h = absurd (h refl)
-unless-some (suc k) r h = refl
+unless-not-zero : (k : ℕ) (r : RoadReading) → k ≢ 0 → unless k r ≡ refused k
+unless-not-zero zero r h = absurd (h refl)
+unless-not-zero (suc k) r h = refl
+
+pub unless-some : (reason : Reason) (r : RoadReading) → unless (reasonNumber reason) r ≡ refused (reasonNumber reason)
+unless-some reason r = unless-not-zero (reasonNumber reason) r (reason-some reason)
 
 -- the end of the file
 module _ {s : Progress} where
-  pub ended-refused : {k : ℕ} → First 0 (endTests s) k → eqb k 0 ≡ false → Ended s (Refused k)
+  pub ended-refused : {reason : Reason} → First 0 (endTests s) (reasonNumber reason) → Ended s (Refused reason)
   unfolding follow
-  ended-refused {k} found some = record { outcome = sym (ap (λ (x : ℕ). unless x (accepted (s .points))) (answers found) ∙ unless-some k (accepted (s .points)) (not-zero some)) }
+  ended-refused {reason} found = record {
+    outcome = sym (ap (λ (x : ℕ). unless x (accepted (s .points))) (answers found) ∙ unless-some reason (accepted (s .points)));
+  }
 
   pub ended-points : First 0 (endTests s) 0 → Ended s (Points (s .points))
   unfolding follow
@@ -154,13 +161,12 @@ module _ {file table₀ table : List ℕ} {s : Progress} {from : ℕ} (r : Reach
       pub stopped-size : length new ≡ length table → length new ≡ length table₀
       stopped-size same = same ∙ r .size
 
-      pub stopped-here : {k : ℕ} → next ≡ Stop k → length new ≡ length table → Followed file (Refused k) new
+      pub stopped-here : {reason : Reason} → next ≡ Stop reason → length new ≡ length table → Followed file (Refused reason) new
       unfolding follow
-      stopped-here {k} e size =
-          let (some, number) = step .stops k e in
-          let is : refused k ≡ follow (lines file) start
-          = sym (unless-some k (follow later (after s (formOf line))) some)
-          ∙ ap (λ (x : ℕ). unless x (follow later (after s (formOf line)))) (sym number)
+      stopped-here {reason} e size =
+          let is : refused (reasonNumber reason) ≡ follow (lines file) start
+          = sym (unless-some reason (follow later (after s (formOf line))))
+          ∙ ap (λ (x : ℕ). unless x (follow later (after s (formOf line)))) (sym (step .stops reason e))
           ∙ followed-one in
           record { size = size ∙ r .kept .room; outcome = is; memory = subst (λ (x : RoadReading). Filled x (arcsIn (lines file)) new) is tt }
 

@@ -1,48 +1,20 @@
 -- What a call leaves, by what the file gives.
-use Prim.Native.Nat.{ℕ, suc}
-use native.Mathlib.Omega.{arith}
-use mathlib.Core.Path.{_≡_, refl, sym, ap, subst, _∙_}
+use Prim.Native.Nat.{ℕ}
+use mathlib.Core.Path.{_≡_, sym, ap, _∙_}
 use mathlib.Core.List.{List}
 use lib.ListN.{replicate, length-replicate, getD-replicate}
 use Rattle.memory.specs.Lists.{listOf}
 use Rattle.memory.proofs.ListOf.{is-listOf}
+use Rattle.refusals.specs.Reason.{reasonNumber}
 use Rattle.text.specs.Pieces.{lines}
-use Rattle.road_text.specs.declared.progress.Progress.{Progress}
-use Rattle.road_text.specs.Reading.{RoadReading, refused, accepted, roadReadingOf, arcsIn, wordIn, tableAfter, numberIn, pointsAfter}
-use Rattle.road_text.specs.claims.Refusals.{ByLines, line-refused, line-passed, end-refused, end-passed, ByTable, buffer-refused, by-lines}
-use Rattle.road_text.specs.claims.Memory.{Road-zeroed, Road-read-host, Road-kept-host}
-use Rattle.road_text.proofs.Refusals.{road-refusals}
+use Rattle.road_text.specs.Reading.{RoadReading, refused, roadReadingOf, arcsIn, wordIn, tableAfter}
+use Rattle.road_text.specs.claims.Memory.{Road-zeroed}
 
 zeros : (m : ℕ) → listOf m (λ q. 0) ≡ replicate m 0
 zeros m = sym (is-listOf m (λ q. 0) (replicate m 0) (length-replicate m 0) (λ p h. getD-replicate m p 0 0 h))
 
-refused-zeros : (m k : ℕ) (file : List ℕ) → roadReadingOf m file ≡ refused k → tableAfter m file ≡ replicate m 0
+pub refused-zeros : (m k : ℕ) (file : List ℕ) → roadReadingOf m file ≡ refused k → tableAfter m file ≡ replicate m 0
 refused-zeros m k file e = ap (λ (x : RoadReading). listOf m (wordIn x (arcsIn (lines file)))) e ∙ zeros m
 
 pub road-zeroed : Road-zeroed
-road-zeroed m number file table r = r .memory ∙ refused-zeros m number file (sym (r .outcome))
-
--- No file is refused with 0: each refusal is a test's number.
-lines-not-zero : {s : Progress} {ls : List (List ℕ)} → ByLines s ls (refused 0) → ⊥
-lines-not-zero (line-passed r rest) = lines-not-zero rest
-
-table-not-zero : {m : ℕ} {file : List ℕ} → ByTable m file (refused 0) → ⊥
-table-not-zero (by-lines r rest) = lines-not-zero rest
-
--- the call for other languages, by what the file gives
-read-by : (m : ℕ) (file : List ℕ) (old new : ℕ) (x : RoadReading) → ByTable m file x → 0 ≡ numberIn x → new ≡ pointsAfter x old → x ≡ accepted new
-read-by m file old new (refused k) given number points = absurd (table-not-zero (rw (← number) at given))
-read-by m file old new (accepted n) given number points = ap accepted (sym points)
-
-kept-by : (number old new : ℕ) (x : RoadReading) → number ≡ numberIn x → new ≡ pointsAfter x old → (number ≡ 0 → ⊥) → (x ≡ refused number) × (new ≡ old)
-kept-by number old new (refused k) is points some = (ap refused (sym is), points)
-kept-by number old new (accepted n) is points some = absurd (some is)
-
-pub road-read-host : Road-read-host
-road-read-host m old new file table r =
-    read-by m file old new (roadReadingOf m file) (road-refusals m file .given) (r .outcome) (r .points)
-
-pub road-kept-host : Road-kept-host
-road-kept-host m number old new file table r some =
-    let (is, points) = kept-by number old new (roadReadingOf m file) (r .outcome) (r .points) some in
-    (is, r .memory ∙ refused-zeros m number file is, points)
+road-zeroed m reason file table r = r .memory ∙ refused-zeros m (reasonNumber reason) file (sym (r .outcome))

@@ -6,13 +6,16 @@ use mathlib.Core.List.{List}
 use lib.ListN.{length}
 use borrow.Author.Tests.{eq-eqb, ne-eqb}
 use Rattle.memory.specs.Lists.{listOf}
+use Rattle.refusals.specs.Reason.{reasonNumber}
+use Rattle.refusals.specs.declared.Reason.{Reason}
+use Rattle.refusals.specs.declared.Reason.the-variants.{RoadForm}
 use Rattle.text.specs.Pieces.{lines}
 use Rattle.road_table.specs.inner.Held.{Cleared}
 use Rattle.road_table.proofs.Words.{all-held, all-zero}
 use Rattle.road_text.specs.declared.answer.RoadAnswer.{RoadAnswer}
 use Rattle.road_text.specs.declared.answer.RoadAnswer.the-variants.{Points, Refused}
 use Rattle.road_text.specs.Steps.{start}
-use Rattle.road_text.specs.Reading.{RoadReading, refused, accepted, follow, roadReadingOf, arcsIn, wordIn, answered, RoadRead, numberIn, pointsAfter, RoadReadHost}
+use Rattle.road_text.specs.Reading.{RoadReading, refused, accepted, follow, roadReadingOf, arcsIn, wordIn, answered, RoadRead}
 use Rattle.road_text.specs.inner.Kept.{Filled, Followed, Owed}
 
 -- `read_cleared`
@@ -26,9 +29,9 @@ module _ {file : List ℕ} {answer : RoadAnswer} {l : List ℕ} (f : Followed fi
       held : Filled (accepted n) (arcsIn (lines file)) l
       held = subst (λ (x : RoadReading). Filled x (arcsIn (lines file)) l) (sym is) (f .memory)
 
-  pub owed-refused : {k : ℕ} {new : List ℕ} → answer ≡ Refused k → Cleared (length l) new → Owed file (Refused k) new
-  owed-refused {k} {new} e c =
-      let is : refused k ≡ follow (lines file) start = sym (ap answered e) ∙ f .outcome in
+  pub owed-refused : {reason : Reason} {new : List ℕ} → answer ≡ Refused reason → Cleared (length l) new → Owed file (Refused reason) new
+  owed-refused {reason} {new} e c =
+      let is : refused (reasonNumber reason) ≡ follow (lines file) start = sym (ap answered e) ∙ f .outcome in
       record {
         outcome = is;
         memory = subst (λ (x : RoadReading). new ≡ listOf 16384 (wordIn x (arcsIn (lines file)))) is
@@ -45,7 +48,7 @@ unfolding roadReadingOf
 fit m file h = rw (eq-eqb m 16384 h)
 
 module _ {m : ℕ} {zeros : List ℕ} (c : Cleared m zeros) where
-  pub wrong-buffer : {file : List ℕ} → length zeros ≢ 16384 → RoadRead m file (Refused 21) zeros
+  pub wrong-buffer : {file : List ℕ} → length zeros ≢ 16384 → RoadRead m file (Refused RoadForm) zeros
   wrong-buffer {file} h =
       let is : refused 21 ≡ roadReadingOf m file = unfit m file (λ e. h (c .size ∙ e)) in
       record { outcome = is; memory = subst (λ (x : RoadReading). zeros ≡ listOf m (wordIn x (arcsIn (lines file)))) is (all-zero c) }
@@ -61,15 +64,3 @@ module _ {m : ℕ} {zeros : List ℕ} (c : Cleared m zeros) where
         outcome = o .outcome ∙ is;
         memory = o .memory ∙ ap₂ (λ (n : ℕ) (x : RoadReading). listOf n (wordIn x (arcsIn (lines file)))) (sym size) is;
       }
-
--- `road_read`
-module _ {m : ℕ} {file : List ℕ} {answer : RoadAnswer} {l : List ℕ} (r : RoadRead m file answer l) where
-  pub host-points : {n old : ℕ} → answer ≡ Points n → RoadReadHost m file 0 old n l
-  host-points {n} {old} e =
-      let is : accepted n ≡ roadReadingOf m file = sym (ap answered e) ∙ r .outcome in
-      record { outcome = ap numberIn is; points = ap (λ (x : RoadReading). pointsAfter x old) is; memory = r .memory }
-
-  pub host-refused : {k old : ℕ} → answer ≡ Refused k → RoadReadHost m file k old old l
-  host-refused {k} {old} e =
-      let is : refused k ≡ roadReadingOf m file = sym (ap answered e) ∙ r .outcome in
-      record { outcome = ap numberIn is; points = ap (λ (x : RoadReading). pointsAfter x old) is; memory = r .memory }

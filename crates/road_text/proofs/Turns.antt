@@ -2,12 +2,14 @@
 use Prim.Native.Nat.{ℕ, _+_, _<_, _≤_}
 use native.Mathlib.Omega.{arith}
 use mathlib.Core.Path.{_≡_, refl, sym, subst, _∙_}
-use mathlib.Core.Logic.{_≢_}
 use mathlib.Core.List.{List, append-nil}
-use mathlib.Core.Bool.{true, false, true≢false}
+use mathlib.Core.Bool.{true, false}
 use lib.Dec.{eqb}
 use borrow.Author.Tests.{eq-eqb, ne-eqb}
 use Rattle.memory.proofs.Geometry.{square-fits}
+use Rattle.refusals.specs.Reason.{reasonNumber}
+use Rattle.refusals.specs.declared.Reason.{Reason}
+use Rattle.refusals.specs.declared.Reason.the-variants.{RoadForm}
 use Rattle.refusals.proofs.First.{First, hit, skip, clear, answers, same, within}
 use Rattle.road_form.specs.declared.forms.Arc.{Arc as ArcSaid}
 use Rattle.road_form.specs.declared.forms.Line.{Line}
@@ -19,14 +21,11 @@ use Rattle.road_text.specs.declared.progress.Next.the-variants.{On, Stop
 use Rattle.road_text.specs.Steps.{lineTests}
 use Rattle.road_text.specs.inner.Kept.{Ready, Passed, Stepped}
 
-pub not-zero : {k : ℕ} → eqb k 0 ≡ false → k ≢ 0
-not-zero {k} some z = true≢false (sym (eq-eqb k 0 z) ∙ some)
-
 module _ {s : Progress} {f : Line} {old new : List ℕ} where
-  pub stopped : {k : ℕ} → First 0 (lineTests s f) k → eqb k 0 ≡ false → Stepped s f old (Stop k) new
-  stopped {k} found some = record {
+  pub stopped : {reason : Reason} → First 0 (lineTests s f) (reasonNumber reason) → Stepped s f old (Stop reason) new
+  stopped {reason} found = record {
     goes = λ t e. let z : _≡_ {A = ℕ} 0 1 = cc in absurd (omega arith);
-    stops = λ j e. let q : k ≡ j = cc in rw (← q) (not-zero some, answers found);
+    stops = λ other e. let q : reason ≡ other = cc in rw (← q) (answers found);
   }
 
   went : {t : Progress} → Passed s f old t new → Stepped s f old (On t) new
@@ -90,5 +89,5 @@ module _ {said : Line} {s : Progress} {old : List ℕ} where
   pub comment-passed : said ≡ Comment → Stepped s said old (On s) old
   comment-passed e = by-form e (went (record { clear = refl; state = refl; kept = λ seen k. rw (append-nil seen) k }))
 
-  pub unknown-stopped : said ≡ Unknown → Stepped s said old (Stop 21) old
-  unknown-stopped e = by-form e (stopped (hit refl) refl)
+  pub unknown-stopped : said ≡ Unknown → Stepped s said old (Stop RoadForm) old
+  unknown-stopped e = by-form e (stopped (hit refl))

@@ -5,6 +5,7 @@ use mathlib.Core.List.{List, [], _∷_, _++_}
 use mathlib.Core.Bool.{Bool, not}
 use lib.Dec.{eqb}
 use Rattle.memory.specs.Lists.{listOf}
+use Rattle.refusals.specs.Reason.{reasonNumber}
 use Rattle.refusals.specs.Tests.{first}
 use Rattle.text.specs.Pieces.{lines}
 use Rattle.road_form.specs.declared.forms.Arc.{Arc as ArcSaid}
@@ -63,23 +64,9 @@ tableAfter m file = listOf m (wordIn (roadReadingOf m file) (arcsIn (lines file)
 -- What an answer says: "POINTS is returned", or the refusal's number.
 abbrev pub answered : RoadAnswer → RoadReading
 answered (Points n) = accepted n
-answered (Refused number) = refused number
+answered (Refused reason) = refused (reasonNumber reason)
 
 -- The contract of the call: its answer, and every word of the buffer after it.
 pub record RoadRead (m : ℕ) (file : List ℕ) (r : RoadAnswer) (table : List ℕ) : Type 0 where
   pub outcome : answered r ≡ roadReadingOf m file
-  pub memory : table ≡ tableAfter m file
-
--- For other languages: 0 and POINTS written, or the number and `points` left.
-abbrev pub numberIn : RoadReading → ℕ
-numberIn (refused number) = number
-numberIn (accepted points) = 0
-
-abbrev pub pointsAfter : RoadReading → ℕ → ℕ
-pointsAfter (refused number) old = old
-pointsAfter (accepted points) old = points
-
-pub record RoadReadHost (m : ℕ) (file : List ℕ) (number old new : ℕ) (table : List ℕ) : Type 0 where
-  pub outcome : number ≡ numberIn (roadReadingOf m file)
-  pub points : new ≡ pointsAfter (roadReadingOf m file) old
   pub memory : table ≡ tableAfter m file

@@ -1,5 +1,7 @@
-// What reading a road file answers: POINTS, or the number of the refusal.
+// What reading a road file answers: POINTS, or why it is refused.
+use refusals::Reason;
+
 pub enum RoadAnswer {
     Points(usize),
-    Refused(u32),
+    Refused(Reason),
 }

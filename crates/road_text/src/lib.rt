@@ -7,14 +7,13 @@ ghost use Rattle.road_text.specs.Reading.{RoadRead};
 ghost use Rattle.road_text.specs.inner.Kept.{Ended, Followed, Owed};
 
 mod answer;
-mod host;
 mod progress;
 mod steps;
 
 pub use answer::RoadAnswer;
-pub use host::road_read;
 use progress::Next;
 use progress::Progress;
+use refusals::Reason;
 use road_form::read_line;
 use road_table::clear;
 use steps::advance;
@@ -37,10 +36,10 @@ fn finish(s: Progress) -> RoadAnswer
     ensures { λ r. ⌜ Ended s r ⌝ }
 {
     if s.points < 1 {
-        return RoadAnswer::Refused(21);
+        return RoadAnswer::Refused(Reason::RoadForm);
     }
     if s.count != s.arcs {
-        return RoadAnswer::Refused(23);
+        return RoadAnswer::Refused(Reason::RoadCount);
     }
     RoadAnswer::Points(s.points)
 }
@@ -60,8 +59,8 @@ fn read_lines(file: &[u8], table: &mut [u16]) -> RoadAnswer
             Next::On(after) => {
                 s = after;
             }
-            Next::Stop(number) => {
-                return RoadAnswer::Refused(number);
+            Next::Stop(reason) => {
+                return RoadAnswer::Refused(reason);
             }
         }
         from = from + said.end + 1;
@@ -77,9 +76,9 @@ fn read_cleared(file: &[u8], table: &mut [u16]) -> RoadAnswer
     let answer = read_lines(file, table);
     match answer {
         RoadAnswer::Points(n) => RoadAnswer::Points(n),
-        RoadAnswer::Refused(number) => {
+        RoadAnswer::Refused(reason) => {
             clear(table);
-            RoadAnswer::Refused(number)
+            RoadAnswer::Refused(reason)
         }
     }
 }
@@ -90,7 +89,7 @@ pub fn read_road(file: &[u8], table: &mut [u16]) -> RoadAnswer
 {
     clear(table);
     if table.len() != TABLE_WORDS {
-        return RoadAnswer::Refused(21);
+        return RoadAnswer::Refused(Reason::RoadForm);
     }
     read_cleared(file, table)
 }

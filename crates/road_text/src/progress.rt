@@ -1,4 +1,6 @@
 // What has been read of a road file, its table apart.
+use refusals::Reason;
+
 pub struct Progress {
     // 0 before the `p` line
     pub points: usize,
@@ -8,8 +10,8 @@ pub struct Progress {
     pub count: u64,
 }
 
-// What a line leads to, or the number of its refusal.
+// What a line leads to, or why it is refused.
 pub enum Next {
     On(Progress),
-    Stop(u32),
+    Stop(Reason),
 }

@@ -26,6 +26,7 @@ print-file-spec =
     -- a refusal
     (λ c. search needs)
     (λ c κs. search needs)
+    (λ c κs. search needs)
     -- the text
     (λ c. search needs)
     (λ c. search needs)

@@ -1,11 +1,12 @@
 -- What is kept while a file is read: how far, and the table of the arcs so far.
 use Prim.Native.Nat.{ℕ, _<_, _≤_, _^_}
 use mathlib.Core.Path.{_≡_}
-use mathlib.Core.Logic.{_≢_}
 use mathlib.Core.List.{List, [], _++_}
 use lib.ListN.{length}
 use Rattle.memory.specs.Lists.{listOf}
 use Rattle.refusals.specs.Tests.{first}
+use Rattle.refusals.specs.Reason.{reasonNumber}
+use Rattle.refusals.specs.declared.Reason.{Reason}
 use Rattle.text.specs.Pieces.{lines}
 use Rattle.road_form.specs.declared.forms.Arc.{Arc}
 use Rattle.road_form.specs.declared.forms.Line.{Line}
@@ -39,7 +40,7 @@ pub record Passed (s : Progress) (f : Line) (old : List ℕ) (t : Progress) (new
 -- It is passed, or it stops the reading.
 pub record Stepped (s : Progress) (f : Line) (old : List ℕ) (r : Next) (new : List ℕ) : Type 0 where
   pub goes : (t : Progress) → r ≡ On t → Passed s f old t new
-  pub stops : (k : ℕ) → r ≡ Stop k → (k ≢ 0) × (first 0 (lineTests s f) ≡ k)
+  pub stops : (reason : Reason) → r ≡ Stop reason → first 0 (lineTests s f) ≡ reasonNumber reason
 
 -- The answer of a file whose last line has been read.
 pub record Ended (s : Progress) (r : RoadAnswer) : Type 0 where

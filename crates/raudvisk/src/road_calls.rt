@@ -1,8 +1,9 @@
-// The call for other languages.
+// Road files for other languages.
 ghost use lib.ListN.{length};
-ghost use Rattle.road_text.specs.Reading.{RoadReadHost};
-use crate::RoadAnswer;
-use crate::read_road;
+ghost use Rattle.raudvisk.specs.RoadCalls.{RoadReadHost};
+use refusals::number;
+use road_text::RoadAnswer;
+use road_text::read_road;
 
 // It returns 0 and writes POINTS, or returns the refusal's number, and then leaves `points` as it was.
 #[no_mangle]
@@ -15,8 +16,8 @@ pub extern "C" fn road_read(file: &[u8], table: &mut [u16], points: &mut usize) 
             *points = n;
             return 0;
         }
-        RoadAnswer::Refused(number) => {
-            return number;
+        RoadAnswer::Refused(reason) => {
+            return number(reason);
         }
     }
 }

@@ -1,8 +1,8 @@
--- `road_text::road_read` meets its contract: by what the call answers.
+-- `road_read` hands on what `read_road` answered.
 use borrow.Author.Needs.{needs}
-use Rattle.road_text.proofs.Readings.{host-points, host-refused}
-use Rattle.road_text.proofs.host.road_read.Statement.{statement}
-use Rattle.road_text.proofs.host.road_read.Tie as tie
+use Rattle.raudvisk.proofs.RoadCalls.{host-points, host-refused}
+use Rattle.raudvisk.proofs.road_calls.road_read.Statement.{statement}
+use Rattle.raudvisk.proofs.road_calls.road_read.Tie as tie
 
 pub road-read-spec : {M : Type 1} → statement M
 road-read-spec =
@@ -13,5 +13,6 @@ road-read-spec =
     (λ c. search needs)
     (λ c. search host-points)
     (λ c. search needs)
+    (λ c κs. search needs)
     (λ c. search needs)
     (λ c. search host-refused))
