@@ -8,7 +8,7 @@ use Rattle.semiring.specs.declared.Named.the-variants.{Known}
 use Rattle.closure.specs.Elimination.{eliminated}
 use Rattle.closure.specs.Tests.{eliminationTests}
 use Rattle.closure.proofs.Accepted.{accepts, accepted-result}
-use Rattle.checks.specs.declared.Reason.{Reason}
+use Rattle.refusals.specs.declared.Reason.{Reason}
 use Rattle.refusals.proofs.Reasons.{reason-some}
 use Rattle.paths.specs.declared.Closed.{Closed}
 use Rattle.paths.specs.declared.Closed.the-variants.{Refused}
