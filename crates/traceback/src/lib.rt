@@ -9,7 +9,7 @@ use checks::Checked;
 use checks::Reason;
 use checks::check;
 use checks::reason_number;
-use closed::is_closed;
+use closure_test::is_closed;
 pub use host::traceback_way;
 use levels::find;
 use semiring::none;
