@@ -23,7 +23,7 @@ use Rattle.checks.specs.declared.Checked.the-variants.{Fit, Refused}
 use Rattle.refusals.specs.declared.Reason.{Reason}
 use Rattle.refusals.proofs.Reasons.{reason-some}
 use Rattle.checks.proofs.Answers.{refused-number, fit-tests, fit-input}
-use Rattle.closed.specs.inner.Tables.{Tables}
+use Rattle.closure_test.specs.inner.Tables.{Tables}
 use Rattle.ways.specs.Tests.{furtherTable, wayTests}
 use Rattle.ways.specs.Given.{WayGiven}
 use Rattle.ways.specs.inner.Sought.{Sought, Found}

@@ -4,7 +4,7 @@ ghost use Rattle.ways.specs.Given.{WayGiven};
 ghost use Rattle.traceback.specs.WayAnswer.{wayNumber, wayLength};
 use checks::Checked;
 use checks::check;
-use closed::is_closed;
+use closure_test::is_closed;
 use levels::find;
 use refusals::Reason;
 use refusals::number;

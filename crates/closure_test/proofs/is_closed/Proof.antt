@@ -1,8 +1,8 @@
 -- `is_closed` chooses a room.
 use borrow.Author.Needs.{needs}
-use Rattle.closed.proofs.Compared.{smaller}
-use Rattle.closed.proofs.is_closed.Statement.{statement}
-use Rattle.closed.proofs.is_closed.Tie as tie
+use Rattle.closure_test.proofs.Compared.{smaller}
+use Rattle.closure_test.proofs.is_closed.Statement.{statement}
+use Rattle.closure_test.proofs.is_closed.Tie as tie
 
 pub is-closed-spec : {M : Type 1} → statement M
 is-closed-spec =

@@ -4,7 +4,7 @@ ghost use mathlib.Core.Path.{_≡_};
 ghost use lib.ListN.{length};
 ghost use Rattle.memory.specs.Lists.{same};
 ghost use Rattle.closure.specs.Elimination.{eliminated};
-ghost use Rattle.closed.specs.inner.Tables.{Tables, Roomy};
+ghost use Rattle.closure_test.specs.inner.Tables.{Tables, Roomy};
 use elimination::close;
 use memory::same_words;
 use semiring::Algebra;

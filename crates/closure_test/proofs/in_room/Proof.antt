@@ -1,9 +1,9 @@
 -- `in_room` lays the links out, closes them and compares.
 use borrow.Author.Needs.{needs}
 use Rattle.memory.proofs.Geometry.{cells-room}
-use Rattle.closed.proofs.Compared.{to-lay-out, compared}
-use Rattle.closed.proofs.in_room.Statement.{statement}
-use Rattle.closed.proofs.in_room.Tie as tie
+use Rattle.closure_test.proofs.Compared.{to-lay-out, compared}
+use Rattle.closure_test.proofs.in_room.Statement.{statement}
+use Rattle.closure_test.proofs.in_room.Tie as tie
 
 -- what it answers
 answer : tie.Need-returns

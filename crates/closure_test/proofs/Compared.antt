@@ -14,7 +14,7 @@ use Rattle.closure.specs.Elimination.{eliminated}
 use Rattle.table_layout.specs.LaidOut.{laidOut, ToLayOut}
 use Rattle.elimination.specs.inner.Passes.{PassedAll}
 use Rattle.elimination.proofs.Eliminates.{eliminates}
-use Rattle.closed.specs.inner.Tables.{Tables, Roomy}
+use Rattle.closure_test.specs.inner.Tables.{Tables, Roomy}
 
 -- what the layout and the passes ask
 module _ {n : ℕ} {w c room : List ℕ} (roomy : Roomy n w c room) where
