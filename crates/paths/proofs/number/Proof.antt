@@ -13,4 +13,4 @@ number-spec =
     (λ c. search needs)
     (λ c κs. search needs)
     (λ c. search needs)
-    (λ c. c .number .ensures ∙ sym (ap closedNumber (c .before .before .closed .given .1))))
+    (λ c. let told : tie.After-closed = search in c .number .ensures ∙ sym (ap closedNumber (told .closed .given .1))))

@@ -13,4 +13,4 @@ run-number-spec =
     (λ c. search needs)
     (λ c κs. search needs)
     (λ c. search needs)
-    (λ c. c .number .ensures ∙ sym (ap runNumber (c .before .before .answer .given .1))))
+    (λ c. let told : tie.After-answer = search in c .number .ensures ∙ sym (ap runNumber (told .answer .given .1))))
