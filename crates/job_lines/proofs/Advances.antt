@@ -16,7 +16,7 @@ use Rattle.job_reading.specs.declared.state.Next.the-variants.{On}
 use Rattle.job_reading.specs.Steps.{Progress, Step, go, stop, proceed, tests, after, step}
 use Rattle.job_form.specs.Words.{wordOf}
 use Rattle.job_form.specs.Buffer.{padded}
-use Rattle.job_steps.specs.inner.States.{stateOf, nextOf, RowOf, JobsKept, Kept, Went, JobsWent}
+use Rattle.job_steps.specs.inner.States.{stateOf, ledBy, nextOf, RowOf, JobsKept, Kept, Went, JobsWent}
 use Rattle.job_form.specs.inner.RowRead.{Held, RowRead}
 use Rattle.job_form.specs.declared.rows.Tally.{Tally}
 use Rattle.job_form.specs.inner.Tallies.{noTally, tallied}
@@ -27,7 +27,7 @@ abbrev Holds : Step → List ℕ → List ℕ → List ℕ → Type 0
 Holds (go p) algebras sizes weights = JobsKept p algebras sizes × (weights ≡ padded (length weights) (p .weights))
 Holds (stop k) algebras sizes weights = Unit {0}
 
-went : (t : Step) (r : Next) (algebras sizes weights : List ℕ) → r ≡ nextOf (length weights) t → Holds t algebras sizes weights
+went : (t : Step) (r : Next) (algebras sizes weights : List ℕ) → ledBy r ≡ nextOf (length weights) t → Holds t algebras sizes weights
     → Went t r algebras sizes weights
 went (go p) r algebras sizes weights e h = (stateOf (length weights) p, (e, record { state = refl; jobs = h .0; weights-hold = h .1 }))
 went (stop k) r algebras sizes weights e h = e
@@ -45,7 +45,7 @@ same-jobs : (p : Progress) (f : Form) {algebras sizes : List ℕ} → SameJobs p
 same-jobs p f (e, h) k = record { algebras-hold = rw e (k .algebras-hold); sizes-hold = rw h (k .sizes-hold); paired = rw (e, h) (k .paired) }
 
 module _ (p : Progress) (s : State) (algebras sizes weights : List ℕ) (k : Kept p s algebras sizes weights) where
-  went-same : (f : Form) (r : Next) → SameJobs p f → after p f .weights ≡ p .weights → r ≡ nextOf (length weights) (step p f)
+  went-same : (f : Form) (r : Next) → SameJobs p f → after p f .weights ≡ p .weights → ledBy r ≡ nextOf (length weights) (step p f)
       → Went (step p f) r algebras sizes weights
   unfolding step
   went-same f r e h q =
@@ -57,13 +57,13 @@ module _ (p : Progress) (s : State) (algebras sizes weights : List ℕ) (k : Kep
   job-holds zero q bs ss e h = (h (k .jobs), rw e (k .weights-hold))
   job-holds (suc n) q bs ss e h = tt
 
-  went-job : (t u : Token) (r : Next) (bs ss : List ℕ) → r ≡ nextOf (length weights) (step p (job t u))
+  went-job : (t u : Token) (r : Next) (bs ss : List ℕ) → ledBy r ≡ nextOf (length weights) (step p (job t u))
       → JobsWent p (step p (job t u)) algebras sizes bs ss → Went (step p (job t u)) r bs ss weights
   unfolding step
   went-job t u r bs ss e h = went (step p (job t u)) r bs ss weights e (job-holds (tests p (job t u)) (after p (job t u)) bs ss refl h)
 
   went-row : (ts : List Token) (r : Next) (new : List ℕ) → length new ≡ length weights → new ≡ padded (length new) (p .weights ++ map (wordOf (p .algebra)) ts)
-      → r ≡ nextOf (length weights) (step p (row ts)) → Went (step p (row ts)) r algebras sizes new
+      → ledBy r ≡ nextOf (length weights) (step p (row ts)) → Went (step p (row ts)) r algebras sizes new
   unfolding step
   went-row ts r new e h q =
       went (step p (row ts)) r algebras sizes new (rw e q)
@@ -71,7 +71,7 @@ module _ (p : Progress) (s : State) (algebras sizes weights : List ℕ) (k : Kep
 
   went-row-read : (ts : List Token) (tally : Tally) (at : ℕ) (r : Next) (new : List ℕ) → length new ≡ length weights
       → tally ≡ tallied (s .algebra) noTally ts → ((ws : List ℕ) → Held ws (s .at) weights → Held (ws ++ map (wordOf (s .algebra)) ts) at new)
-      → (RowOf (length weights) p ts tally at → r ≡ nextOf (length weights) (step p (row ts))) → Went (step p (row ts)) r algebras sizes new
+      → (RowOf (length weights) p ts tally at → ledBy r ≡ nextOf (length weights) (step p (row ts))) → Went (step p (row ts)) r algebras sizes new
   went-row-read ts tally at r new e et held q =
       went-row ts r new e (after-row .content)
       (q (record {
@@ -84,7 +84,7 @@ module _ (p : Progress) (s : State) (algebras sizes weights : List ℕ) (k : Kep
           let h : Held (p .weights ++ map (wordOf (s .algebra)) ts) at new = held (p .weights) (record { content = k .weights-hold; place = ap (λ (x : State). x .at) (k .state) }) in
           subst (λ (x : State). Held (p .weights ++ map (wordOf (x .algebra)) ts) at new) (k .state) h
 
-  went-row-empty : (tally : Tally) (r : Next) → tally ≡ noTally → (RowOf (length weights) p [] tally (s .at) → r ≡ nextOf (length weights) (step p (row [])))
+  went-row-empty : (tally : Tally) (r : Next) → tally ≡ noTally → (RowOf (length weights) p [] tally (s .at) → ledBy r ≡ nextOf (length weights) (step p (row [])))
       → Went (step p (row [])) r algebras sizes weights
   unfolding tallied
   went-row-empty tally r e q = went-row-read [] tally (s .at) r weights refl e (λ ws h. rw (append-nil ws) h) q

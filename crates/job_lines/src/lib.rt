@@ -6,19 +6,26 @@ use job_form::Row;
 use job_form::Tally;
 use job_form::read_line;
 use job_form::read_row;
+use job_reading::Due;
 use job_reading::Next;
 use job_reading::State;
-use job_reading::for_due;
 use job_steps::close_step;
 use job_steps::job_step;
 use job_steps::list_step;
 use job_steps::row_step;
+use refusals::Reason;
 
 fn unknown_step(s: State) -> Next
     ensures { λ r. ⌜ Stepped s unknown r ⌝ }
 {
     let due = s.due;
-    Next::Stop(for_due(due, 14, 14, 14, 14))
+    match due {
+        Due::List => Next::Stop(Reason::FormNotDue),
+        Due::Job => Next::Stop(Reason::FormNotDue),
+        Due::Row => Next::Stop(Reason::FormNotDue),
+        Due::Close => Next::Stop(Reason::FormNotDue),
+        Due::Nothing => Next::Stop(Reason::TextEnd),
+    }
 }
 
 // The step of a line, with the buffers after it where it is accepted.

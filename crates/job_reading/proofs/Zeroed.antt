@@ -5,8 +5,7 @@ use mathlib.Core.Path.{_≡_, sym, ap, _∙_}
 use mathlib.Core.List.{List}
 use Rattle.job_form.specs.Buffer.{padded}
 use Rattle.job_form.proofs.Padded.{zeros}
-use Rattle.job_reading.specs.declared.answer.Refusal.{Refusal}
-use Rattle.job_reading.specs.Reading.{Reading, refused, accepted, readingOf, algebrasIn, sizesIn, weightsIn, algebrasAfter, sizesAfter, weightsAfter, turned, answerOf}
+use Rattle.job_reading.specs.Reading.{Refusal, Reading, refused, accepted, readingOf, algebrasIn, sizesIn, weightsIn, algebrasAfter, sizesAfter, weightsAfter, turned, answerOf, told}
 use Rattle.job_reading.specs.claims.Zeroed.{AllZero, Zeroed}
 
 none-left : (l m n : ℕ) (reading : Reading) (why : Refusal) → reading ≡ refused why
@@ -26,7 +25,7 @@ pub zeroed : Zeroed
 zeroed = record {
   defined = all-zero;
   left = λ l m n text why algebras sizes weights h.
-      let zero = all-zero l m n text why (is-refused (readingOf l m n text) why (h .outcome)) in
+      let zero = all-zero l m n text (told why) (is-refused (readingOf l m n text) (told why) (h .outcome)) in
       record {
         algebras-zero = h .algebras-left ∙ zero .algebras-zero;
         sizes-zero = h .sizes-left ∙ zero .sizes-zero;

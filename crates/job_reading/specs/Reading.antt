@@ -5,17 +5,22 @@ use mathlib.Core.List.{List, [], _∷_}
 use mathlib.Core.Bool.{Bool, not, _||_}
 use lib.ListN.{length}
 use lib.Dec.{eqb, ltb}
+use Rattle.refusals.specs.Reason.{reasonNumber}
 use Rattle.refusals.specs.Tests.{first}
 use Rattle.text.specs.Pieces.{lines, parts}
 use Rattle.job_form.specs.Forms.{formOf}
 use Rattle.job_form.specs.Buffer.{padded}
 use Rattle.job_reading.specs.Steps.{Progress, byDue, Step, go, stop, start, step}
 use Rattle.job_reading.specs.declared.state.Due.{Due}
-use Rattle.job_reading.specs.declared.answer.Refusal.{Refusal}
+use Rattle.job_reading.specs.declared.answer.Refusal.{Refusal as Why}
 use Rattle.job_reading.specs.declared.answer.Read.{Read}
 use Rattle.job_reading.specs.declared.answer.Read.the-variants.{List as Listed, Refused}
 
 -- "number, line"
+pub record Refusal : Type 0 where
+  pub number : ℕ
+  pub line : ℕ
+
 abbrev pub refusal : ℕ → ℕ → Refusal
 refusal number line = record { number = number; line = line }
 
@@ -86,9 +91,12 @@ abbrev pub answerOf : Reading → Answer
 answerOf (refused r) = turned r
 answerOf (accepted order algebras sizes weights) = given order (length sizes)
 
+abbrev pub told : Why → Refusal
+told why = refusal (reasonNumber (why .reason)) (why .line)
+
 abbrev pub answered : Read → Answer
 answered (Listed order jobs) = given order jobs
-answered (Refused r) = turned r
+answered (Refused why) = turned (told why)
 
 -- What a call of `read` answers and leaves, from the lengths of the three buffers and the text.
 pub record ReadInto (l m n : ℕ) (text : List ℕ) (r : Read) (algebras sizes weights : List ℕ) : Type 0 where

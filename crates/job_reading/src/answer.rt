@@ -1,11 +1,12 @@
 // What reading a text answers.
 ghost use mathlib.Core.Path.{_≡_};
-ghost use Rattle.job_reading.specs.declared.answer.Read.the-variants.{Refused};
-ghost use Rattle.job_reading.specs.Reading.{refusal};
+ghost use Rattle.refusals.specs.Reason.{reasonNumber};
+ghost use Rattle.job_reading.specs.Reading.{refusal, turned, answered};
+use refusals::Reason;
 
 // Why and on which line the reader turned back.
 pub struct Refusal {
-    pub number: u16,
+    pub reason: Reason,
     pub line: u32,
 }
 
@@ -15,8 +16,8 @@ pub enum Read {
     Refused(Refusal),
 }
 
-pub fn refused(number: u16, line: u32) -> Read
-    ensures { λ r. ⌜ r ≡ Refused (refusal number line) ⌝ }
+pub fn refused(reason: Reason, line: u32) -> Read
+    ensures { λ r. ⌜ answered r ≡ turned (refusal (reasonNumber reason) line) ⌝ }
 {
-    Read::Refused(Refusal { number, line })
+    Read::Refused(Refusal { reason, line })
 }

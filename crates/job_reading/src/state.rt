@@ -1,6 +1,9 @@
 // How far a text has been read.
 ghost use mathlib.Core.Path.{_≡_};
+ghost use Rattle.refusals.specs.Tested.{testedNumber};
 ghost use Rattle.job_reading.specs.Steps.{forDue};
+use refusals::Reason;
+use refusals::Tested;
 use semiring::Algebra;
 
 // The form that is due.
@@ -29,21 +32,21 @@ pub struct State {
     pub at: usize,
 }
 
-// What a line leads to: the state after it, or the number of its refusal.
+// What a line leads to: the state after it, or why it is refused.
 pub enum Next {
     On(State),
-    Stop(u16),
+    Stop(Reason),
 }
 
-// The number for what is due, and 17 after the end.
-pub fn for_due(due: Due, list: u16, job: u16, row: u16, close: u16) -> u16
-    ensures { λ r. ⌜ r ≡ forDue due list job row close ⌝ }
+// The tests for what is due; after the end no line is.
+pub fn for_due(due: Due, list: Tested, job: Tested, row: Tested, close: Tested) -> Tested
+    ensures { λ r. ⌜ testedNumber r ≡ forDue due (testedNumber list) (testedNumber job) (testedNumber row) (testedNumber close) ⌝ }
 {
     match due {
         Due::List => list,
         Due::Job => job,
         Due::Row => row,
         Due::Close => close,
-        Due::Nothing => 17,
+        Due::Nothing => Tested::Unfit(Reason::TextEnd),
     }
 }

@@ -1,15 +1,27 @@
--- The number that a table of tests gives, and each kind of test from what a branch tells.
+-- What a table of tests gives, and each kind of test from what a branch tells.
 use Prim.Native.Nat.{ℕ, _≤_, _<_}
 use mathlib.Core.Path.{_≡_, refl, sym, ap, _∙_}
 use mathlib.Core.List.{List, [], _∷_}
 use mathlib.Core.Bool.{Bool, true, false, not, _||_}
 use borrow.Author.Tests.{lt-ltb, le-ltb, le-leb, lt-leb, eq-eqb, ne-eqb}
+use Rattle.refusals.specs.Reason.{reasonNumber}
+use Rattle.refusals.specs.Tested.{testedNumber}
 use Rattle.refusals.specs.Tests.{first, outside}
+use Rattle.refusals.specs.declared.Reason.{Reason}
+use Rattle.refusals.specs.declared.Tested.{Tested}
+use Rattle.refusals.specs.declared.Tested.the-variants.{Fit, Unfit}
 use Rattle.refusals.proofs.First.{First, hit, skip, clear, answers, below, above, within}
-use Rattle.job_steps.specs.inner.Tested.{Tested}
+use Rattle.job_steps.specs.inner.TestedBy.{TestedBy}
 
-pub tested : {ts : List (Bool × ℕ)} {number : ℕ} → First 0 ts number → Tested ts number
+pub tested : {ts : List (Bool × ℕ)} {found : Tested} → First 0 ts (testedNumber found) → TestedBy ts found
 tested f = record { number-is = sym (answers f) }
+
+-- the number, from the variant that a branch told
+pub fit : {found : Tested} {k : ℕ} → found ≡ Fit → testedNumber found ≡ k → k ≡ 0
+fit told e = sym e ∙ ap testedNumber told
+
+pub unfit : {found : Tested} {reason : Reason} {k : ℕ} → found ≡ Unfit reason → testedNumber found ≡ k → reasonNumber reason ≡ k
+unfit told e = sym (ap testedNumber told) ∙ e
 
 -- the rest of a table, whose tests a function made
 each-first : (ts : List (Bool × ℕ)) → First 0 ts (first 0 ts)
@@ -17,7 +29,7 @@ each-first [] = clear
 each-first ((true, k) ∷ ts) = hit refl
 each-first ((false, k) ∷ ts) = skip refl (each-first ts)
 
-pub further : {ts : List (Bool × ℕ)} {number : ℕ} → Tested ts number → First 0 ts number
+pub further : {ts : List (Bool × ℕ)} {found : Tested} → TestedBy ts found → First 0 ts (testedNumber found)
 further {ts} t = rw (t .number-is) (each-first ts)
 
 pub told-not : (test answer known : Bool) → answer ≡ test → not answer ≡ known → not test ≡ known

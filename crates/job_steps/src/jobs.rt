@@ -1,6 +1,6 @@
 // The line that opens a job.
 ghost use Rattle.job_reading.specs.Steps.{rangeTests, jobTests};
-ghost use Rattle.job_steps.specs.inner.Tested.{Tested};
+ghost use Rattle.job_steps.specs.inner.TestedBy.{TestedBy};
 ghost use Rattle.job_steps.specs.inner.Stepped.{Noted, JobStepped};
 use job_form::Token;
 use job_form::store;
@@ -8,37 +8,39 @@ use job_reading::Due;
 use job_reading::Next;
 use job_reading::State;
 use job_reading::for_due;
+use refusals::Reason;
+use refusals::Tested;
 use semiring::Algebra;
 use semiring::number;
 
 // The tests of a size that is a number, and of the count of jobs.
-fn range_tests(order: u16, jobs: u16, size: Token) -> u16
-    ensures { λ r. ⌜ Tested (rangeTests order jobs size) r ⌝ }
+fn range_tests(order: u16, jobs: u16, size: Token) -> Tested
+    ensures { λ r. ⌜ TestedBy (rangeTests order jobs size) r ⌝ }
 {
     let n = size.value();
     if n < 1 {
-        return 8;
+        return Tested::Unfit(Reason::JobSizeOutside);
     }
     if order < n {
-        return 8;
+        return Tested::Unfit(Reason::JobSizeOutside);
     }
     if 16 <= jobs {
-        return 7;
+        return Tested::Unfit(Reason::JobsOutside);
     }
-    0
+    Tested::Fit
 }
 
-fn job_tests(order: u16, jobs: u16, size: Token, algebra: Token) -> u16
-    ensures { λ r. ⌜ Tested (jobTests order jobs size algebra) r ⌝ }
+fn job_tests(order: u16, jobs: u16, size: Token, algebra: Token) -> Tested
+    ensures { λ r. ⌜ TestedBy (jobTests order jobs size algebra) r ⌝ }
 {
     if !size.is_numeral() {
-        return 14;
+        return Tested::Unfit(Reason::FormNotDue);
     }
     if !algebra.is_name() {
-        return 14;
+        return Tested::Unfit(Reason::FormNotDue);
     }
     if size.is_over() {
-        return 15;
+        return Tested::Unfit(Reason::NumeralOver);
     }
     range_tests(order, jobs, size)
 }
@@ -61,20 +63,29 @@ pub fn job_step(
     ensures { λ r. ⌜ JobStepped s size algebra (now (algebras .entry)) (now (sizes .entry)) r (now (algebras .exit)) (now (sizes .exit)) ⌝ }
 {
     let due = s.due;
-    let number = for_due(due, 14, job_tests(s.order, s.jobs, size, algebra), 14, 14);
-    if number != 0 {
-        return Next::Stop(number);
+    let other = Tested::Unfit(Reason::FormNotDue);
+    let tested = for_due(
+        due,
+        other,
+        job_tests(s.order, s.jobs, size, algebra),
+        other,
+        other,
+    );
+    match tested {
+        Tested::Fit => {
+            let n = size.value();
+            let a = algebra.algebra();
+            note(s.jobs, a, n, algebras, sizes);
+            Next::On(State {
+                due: Due::Row,
+                order: s.order,
+                jobs: s.jobs + 1,
+                algebra: a,
+                size: n,
+                left: n,
+                at: s.at,
+            })
+        }
+        Tested::Unfit(reason) => Next::Stop(reason),
     }
-    let n = size.value();
-    let a = algebra.algebra();
-    note(s.jobs, a, n, algebras, sizes);
-    Next::On(State {
-        due: Due::Row,
-        order: s.order,
-        jobs: s.jobs + 1,
-        algebra: a,
-        size: n,
-        left: n,
-        at: s.at,
-    })
 }

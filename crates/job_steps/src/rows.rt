@@ -3,7 +3,7 @@ ghost use mathlib.Core.Path.{_≡_};
 ghost use Prim.Native.Nat.{_-_};
 ghost use Rattle.job_reading.specs.Steps.{dueAfterRow};
 ghost use Rattle.job_steps.specs.inner.Tallies.{tallyTests};
-ghost use Rattle.job_steps.specs.inner.Tested.{Tested};
+ghost use Rattle.job_steps.specs.inner.TestedBy.{TestedBy};
 ghost use Rattle.job_steps.specs.inner.Stepped.{RowStepped};
 use job_form::Row;
 use job_form::Tally;
@@ -11,23 +11,25 @@ use job_reading::Due;
 use job_reading::Next;
 use job_reading::State;
 use job_reading::for_due;
+use refusals::Reason;
+use refusals::Tested;
 
-fn row_tests(tally: Tally, size: u16) -> u16
-    ensures { λ r. ⌜ Tested (tallyTests tally size) r ⌝ }
+fn row_tests(tally: Tally, size: u16) -> Tested
+    ensures { λ r. ⌜ TestedBy (tallyTests tally size) r ⌝ }
 {
     if tally.other {
-        return 14;
+        return Tested::Unfit(Reason::FormNotDue);
     }
     if tally.over {
-        return 15;
+        return Tested::Unfit(Reason::NumeralOver);
     }
     if tally.count != size as usize {
-        return 16;
+        return Tested::Unfit(Reason::RowLength);
     }
     if tally.above {
-        return 5;
+        return Tested::Unfit(Reason::WordAbove);
     }
-    0
+    Tested::Fit
 }
 
 fn due_after_row(left: u16) -> Due
@@ -48,18 +50,19 @@ pub fn row_step(s: State, found: Row) -> Next
 {
     let tally = found.tally;
     let due = s.due;
-    let number = for_due(due, 14, 14, row_tests(tally, s.size), 14);
-    if number != 0 {
-        return Next::Stop(number);
-    }
+    let other = Tested::Unfit(Reason::FormNotDue);
+    let tested = for_due(due, other, other, row_tests(tally, s.size), other);
     let algebra = s.algebra;
-    Next::On(State {
-        due: due_after_row(s.left),
-        order: s.order,
-        jobs: s.jobs,
-        algebra,
-        size: s.size,
-        left: one_less(s.left),
-        at: found.at,
-    })
+    match tested {
+        Tested::Fit => Next::On(State {
+            due: due_after_row(s.left),
+            order: s.order,
+            jobs: s.jobs,
+            algebra,
+            size: s.size,
+            left: one_less(s.left),
+            at: found.at,
+        }),
+        Tested::Unfit(reason) => Next::Stop(reason),
+    }
 }

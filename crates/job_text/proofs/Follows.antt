@@ -7,6 +7,8 @@ use native.Mathlib.Omega.{arith}
 use mathlib.Core.Path.{_≡_, refl, sym, ap, subst, _∙_}
 use mathlib.Core.List.{List, [], _∷_, map}
 use lib.ListN.{length, drop, drop-of-length-le}
+use Rattle.refusals.specs.Reason.{reasonNumber}
+use Rattle.refusals.specs.declared.Reason.{Reason}
 use Rattle.text.specs.Pieces.{bytesOf, cut, lines, parts}
 use Rattle.job_form.specs.Forms.{formOf}
 use Rattle.text.specs.inner.Scan.{between, Until}
@@ -16,9 +18,8 @@ use Rattle.job_reading.specs.declared.state.State.{State}
 use Rattle.job_reading.specs.declared.state.Next.{Next}
 use Rattle.job_reading.specs.declared.state.Next.the-variants.{On, Stop}
 use Rattle.job_reading.specs.declared.answer.Read.{Read}
-use Rattle.job_reading.specs.declared.answer.Read.the-variants.{Refused}
 use Rattle.job_reading.specs.Steps.{Progress, start, Step, go, stop, step}
-use Rattle.job_reading.specs.Reading.{Reading, refused, refusal, ended, follow, answerOf, answered}
+use Rattle.job_reading.specs.Reading.{Reading, refused, refusal, ended, follow, turned, answerOf, answered}
 use Rattle.job_steps.specs.inner.States.{stateOf, AllCleared, Kept, Went, endedBy, Ended, Filled, Followed}
 use Rattle.job_steps.specs.inner.Stepped.{Advanced}
 use Rattle.job_reading.proofs.Insensitive.{follow-stop}
@@ -64,9 +65,9 @@ went-on : (t : Step) (s : State) (algebras sizes weights : List ℕ) → Went t 
 went-on (go p) s algebras sizes weights (s′, (e, k)) = let q : s ≡ s′ = cc in (p, refl, rw q k)
 went-on (stop k) s algebras sizes weights e = let z : _≡_ {A = ℕ} 0 1 = cc in absurd (omega arith)
 
-went-stop : (t : Step) (k : ℕ) (algebras sizes weights : List ℕ) → Went t (Stop k) algebras sizes weights → t ≡ stop k
-went-stop (go p) k algebras sizes weights (s′, (e, h)) = let z : _≡_ {A = ℕ} 0 1 = cc in absurd (omega arith)
-went-stop (stop j) k algebras sizes weights e = let q : j ≡ k = cc in ap stop q
+went-stop : (t : Step) (reason : Reason) (algebras sizes weights : List ℕ) → Went t (Stop reason) algebras sizes weights → t ≡ stop (reasonNumber reason)
+went-stop (go p) reason algebras sizes weights (s′, (e, h)) = let z : _≡_ {A = ℕ} 0 1 = cc in absurd (omega arith)
+went-stop (stop j) reason algebras sizes weights e = let q : j ≡ reasonNumber reason = cc in ap stop q
 
 ended-answer : (d : Due) (n line : ℕ) (p : Progress) → endedBy d (stateOf n p) line ≡ answerOf (ended d line p)
 ended-answer due.List n line p = refl
@@ -112,18 +113,18 @@ module _ {text algebras₀ sizes₀ weights₀ algebras sizes weights : List ℕ
           weights-length = f ∙ c .weights-length;
         }
 
-    refusal-is : {k : ℕ} → r ≡ Stop k → refused (refusal k (line + 1)) ≡ whole text
-    refusal-is {k} is =
-        sym (follow-stop (line + 1) k (linesFrom (end + 1) text))
+    refusal-is : {reason : Reason} → r ≡ Stop reason → refused (refusal (reasonNumber reason) (line + 1)) ≡ whole text
+    refusal-is {reason} is =
+        sym (follow-stop (line + 1) (reasonNumber reason) (linesFrom (end + 1) text))
         ∙ ap (follow (line + 1) (linesFrom (end + 1) text))
-        (sym (went-stop (step (c .done) (formOf (parts (between from end text)))) k algebras′ sizes′ weights′ (rw is at went)))
+        (sym (went-stop (step (c .done) (formOf (parts (between from end text)))) reason algebras′ sizes′ weights′ (rw is at went)))
         ∙ follow-line h u
 
-    pub reached-stop : {k : ℕ} {answer : Read} → r ≡ Stop k → answer ≡ Refused (refusal k (line + 1))
+    pub reached-stop : {reason : Reason} {answer : Read} → r ≡ Stop reason → answered answer ≡ turned (refusal (reasonNumber reason) (line + 1))
         → Followed (whole text) answer algebras′ sizes′ weights′
-    reached-stop {k} is answers =
-        let e : refused (refusal k (line + 1)) ≡ whole text = refusal-is is in
-        record { outcome = ap answered answers ∙ ap answerOf e; memory = subst (λ (x : Reading). Filled x algebras′ sizes′ weights′) e tt }
+    reached-stop {reason} is answers =
+        let e : refused (refusal (reasonNumber reason) (line + 1)) ≡ whole text = refusal-is is in
+        record { outcome = answers ∙ ap answerOf e; memory = subst (λ (x : Reading). Filled x algebras′ sizes′ weights′) e tt }
 
   the-end : length text ≤ from → ended (c .done .due) line (c .done) ≡ whole text
   unfolding follow cut

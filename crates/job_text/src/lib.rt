@@ -16,6 +16,8 @@ use job_reading::Next;
 use job_reading::Read;
 use job_reading::State;
 use job_reading::refused;
+use refusals::Reason;
+use refusals::Tested;
 use semiring::Algebra;
 use text::until;
 
@@ -39,10 +41,10 @@ fn finish(s: State, line: u32) -> Read
 {
     let due = s.due;
     match due {
-        Due::List => refused(17, line),
-        Due::Job => refused(17, line),
-        Due::Row => refused(17, line),
-        Due::Close => refused(17, line),
+        Due::List => refused(Reason::TextEnd, line),
+        Due::Job => refused(Reason::TextEnd, line),
+        Due::Row => refused(Reason::TextEnd, line),
+        Due::Close => refused(Reason::TextEnd, line),
         Due::Nothing => Read::List {
             order: s.order,
             jobs: s.jobs,
@@ -68,8 +70,8 @@ fn read_lines(text: &[u8], algebras: &mut [u16], sizes: &mut [u16], weights: &mu
             Next::On(after) => {
                 s = after;
             }
-            Next::Stop(number) => {
-                return refused(number, line);
+            Next::Stop(reason) => {
+                return refused(reason, line);
             }
         }
         from = end + 1;
@@ -94,23 +96,23 @@ fn read_within(text: &[u8], algebras: &mut [u16], sizes: &mut [u16], weights: &m
     }
 }
 
-// The number of the tests before any line.
-fn length_tests(algebras: usize, sizes: usize, weights: usize, bytes: usize) -> u16
+// The tests before any line.
+fn length_tests(algebras: usize, sizes: usize, weights: usize, bytes: usize) -> Tested
     ensures { λ r. ⌜ LengthsTested algebras sizes weights bytes r ⌝ }
 {
     if algebras != 16 {
-        return 18;
+        return Tested::Unfit(Reason::BufferLength);
     }
     if sizes != 16 {
-        return 18;
+        return Tested::Unfit(Reason::BufferLength);
     }
     if weights != 16384 {
-        return 18;
+        return Tested::Unfit(Reason::BufferLength);
     }
     if 65536 < bytes {
-        return 13;
+        return Tested::Unfit(Reason::TextLength);
     }
-    0
+    Tested::Fit
 }
 
 // Reads a job text: its algebras by number, its sizes and its weights into the three buffers, unused words 0. A refusal leaves all three 0.
@@ -118,10 +120,10 @@ pub fn read(text: &[u8], algebras: &mut [u16], sizes: &mut [u16], weights: &mut 
     ensures { λ r. ⌜ ReadInto (length (now (algebras .entry))) (length (now (sizes .entry))) (length (now (weights .entry))) (now (text .entry)) r
         (now (algebras .exit)) (now (sizes .exit)) (now (weights .exit)) ⌝ }
 {
-    let number = length_tests(algebras.len(), sizes.len(), weights.len(), text.len());
+    let tested = length_tests(algebras.len(), sizes.len(), weights.len(), text.len());
     clear_all(algebras, sizes, weights);
-    if number != 0 {
-        return refused(number, 0);
+    match tested {
+        Tested::Fit => read_within(text, algebras, sizes, weights),
+        Tested::Unfit(reason) => refused(reason, 0),
     }
-    read_within(text, algebras, sizes, weights)
 }

@@ -29,6 +29,12 @@ pub enum Reason {
     RoadCount,
 }
 
+// What a table of tests gives: none of them applies, or the reason of the first that does.
+pub enum Tested {
+    Fit,
+    Unfit(Reason),
+}
+
 // The paper's number of a reason.
 pub fn number(reason: Reason) -> u32
     ensures { λ r. ⌜ r ≡ reasonNumber reason ⌝ }

@@ -7,10 +7,10 @@ use lib.ListN.{length, take}
 use lib.Seq.{length-take-le}
 use Rattle.job_list.specs.Jobs.{offset, jobsOf}
 use Rattle.job_list.proofs.Fits.{fits-small}
-use Rattle.job_reading.specs.declared.answer.Refusal.{Refusal}
+use Rattle.job_reading.specs.declared.answer.Refusal.{Refusal as Why}
 use Rattle.job_reading.specs.declared.answer.Read.{Read}
 use Rattle.job_reading.specs.declared.answer.Read.the-variants.{List as Listed, Refused}
-use Rattle.job_reading.specs.Reading.{Reading, refused, accepted, readingOf, algebrasIn, sizesIn, weightsIn, given, turned, answerOf, answered, ReadInto}
+use Rattle.job_reading.specs.Reading.{Refusal, Reading, refused, accepted, readingOf, algebrasIn, sizesIn, weightsIn, given, turned, answerOf, told, answered, ReadInto}
 use Rattle.job_form.specs.Buffer.{padded}
 use Rattle.job_list.specs.Fits.{ListAccepted, Small}
 use Rattle.job_form.proofs.Padded.{length-padded}
@@ -77,11 +77,11 @@ module _ (text : List ℕ) {l m n : ℕ} (asked : (l ≡ 16) × (m ≡ 16) × (n
   refused-by (refused why′) {why} e = let f : why ≡ why′ = cc in ap (λ (x : Refusal). refusedLine (x .number) (x .line)) f
   refused-by (accepted order ns ss ws) e = let z : _≡_ {A = ℕ} 0 1 = cc in absurd (omega arith)
 
-  pub refusal-printed : {answer : Read} {why : Refusal} {algebras sizes weights : List ℕ} → answer ≡ Refused why
+  pub refusal-printed : {answer : Read} {why : Why} {algebras sizes weights : List ℕ} → answer ≡ Refused why
       → ReadInto l m n text answer algebras sizes weights
-      → {page page′ : List ℕ} {next : ℕ} → Put page 0 (refusedLine (why .number) (why .line)) page′ next → Put page 0 (sheetOf text) page′ next
-  refusal-printed is told p =
-      put-as p (refused-by (readingOf 16 16 16384 text) (sym (ap answered is) ∙ told .outcome ∙ ap answerOf same-reading))
+      → {page page′ : List ℕ} {next : ℕ} → Put page 0 (refusedLine (told why .number) (told why .line)) page′ next → Put page 0 (sheetOf text) page′ next
+  refusal-printed is read p =
+      put-as p (refused-by (readingOf 16 16 16384 text) (sym (ap answered is) ∙ read .outcome ∙ ap answerOf same-reading))
 
 -- The parts of the buffers that are lent on.
 module _ {text : List ℕ} {order jobs : ℕ} {algebras sizes weights : List ℕ} (r : ReadList text order jobs algebras sizes weights) where

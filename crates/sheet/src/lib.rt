@@ -39,7 +39,7 @@ fn print_text(
                 &weights[..words],
             )
         }
-        Read::Refused(why) => put_refused(page, why.number, why.line),
+        Read::Refused(why) => put_refused(page, why),
     }
 }
 

@@ -17,7 +17,6 @@ use Rattle.systolic.specs.State.{total}
 use Rattle.systolic.specs.Tick.{leaves}
 use Rattle.systolic.proofs.Totals.{total-most}
 use Rattle.text.proofs.Numerals.{numerals}
-use Rattle.job_reading.specs.declared.answer.Refusal.{Refusal}
 use Rattle.sheet_form.specs.claims.Demand.{closureWords}
 use Rattle.refusals.proofs.First.{first-most}
 use Rattle.text.specs.Pieces.{Piece, pieced, cut, bytesOf, lines, parts}
@@ -25,7 +24,7 @@ use Rattle.job_form.specs.Forms.{Form, list, job, row, close, skipped, unknown,
 use Rattle.job_reading.specs.declared.state.Due.{Due}
 use Rattle.job_reading.specs.declared.state.Due.the-variants as due
 use Rattle.job_reading.specs.Steps.{Progress, forDue, listTests, jobTests, rowTests, listEndTests, tests, after, Step, go, stop, start, proceed, step}
-use Rattle.job_reading.specs.Reading.{Reading, refused, accepted, ended, follow, unless, readingOf}
+use Rattle.job_reading.specs.Reading.{Refusal, Reading, refused, accepted, ended, follow, unless, readingOf}
 use Rattle.job_list.specs.Fits.{ListAccepted}
 use Rattle.job_reading.proofs.Whole.{whole}
 use Rattle.sheet_form.specs.claims.Numbers.{Refusal-numbers, List-numbers}

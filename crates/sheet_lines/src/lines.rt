@@ -1,6 +1,9 @@
 // The lines of a sheet.
 ghost use Rattle.text.specs.inner.Put.{Put};
+ghost use Rattle.refusals.specs.Reason.{reasonNumber};
 ghost use Rattle.sheet_form.specs.Lines.{spaced, refusedLine, jobsLine, shownWord, outLine};
+use job_reading::Refusal;
+use refusals::number;
 use semiring::Algebra;
 use semiring::Distance;
 use semiring::Steepest;
@@ -26,12 +29,14 @@ fn put_spaced(page: &mut [u8], at: usize, n: u32) -> usize
 }
 
 // The line of a refusal, which is the whole sheet.
-pub fn put_refused(page: &mut [u8], number: u16, line: u32) -> usize
-    ensures { λ r. ⌜ Put (now (page .entry)) 0 (refusedLine number line) (now (page .exit)) r ⌝ }
+pub fn put_refused(page: &mut [u8], why: Refusal) -> usize
+    ensures { λ r. ⌜ Put (now (page .entry)) 0 (refusedLine (reasonNumber (why .reason)) (why .line)) (now (page .exit)) r ⌝ }
 {
+    let reason = why.reason;
+    let told = number(reason);
     let at = put_text(page, 0, b"(refused");
-    let at = put_spaced(page, at, number as u32);
-    let at = put_spaced(page, at, line);
+    let at = put_spaced(page, at, told);
+    let at = put_spaced(page, at, why.line);
     put_text(page, at, b")\n")
 }
 

@@ -2,6 +2,7 @@
 use crate::print;
 use job_reading::Read;
 use job_text::read;
+use refusals::number;
 use text::until;
 
 // One text into three buffers: what was read and what the buffers then hold, but for zeros at their ends.
@@ -23,7 +24,8 @@ pub fn one(
         }
         Read::Refused(why) => {
             print::text(b": refused");
-            print::number(why.number as u32);
+            let reason = why.reason;
+            print::number(number(reason));
             print::number(why.line);
         }
     }

@@ -8,5 +8,13 @@ pub unknown-step-spec : {M : Type 1} → statement M
 unknown-step-spec =
     tie.close
     (tie.spec
-    (λ c κs. search needs)
+    (λ c. search needs)
+    (λ c. search needs)
+    (λ c. search needs)
+    (λ c. search needs)
+    (λ c. search needs)
+    (λ c. search unknown-stops)
+    (λ c. search unknown-stops)
+    (λ c. search unknown-stops)
+    (λ c. search unknown-stops)
     (λ c. search unknown-stops))

@@ -3,6 +3,8 @@ use Prim.Native.Nat.{ℕ, min}
 use mathlib.Core.Path.{_≡_}
 use mathlib.Core.List.{List, [], _++_, map}
 use lib.ListN.{length}
+use Rattle.refusals.specs.Reason.{reasonNumber}
+use Rattle.refusals.specs.declared.Tested.{Tested}
 use Rattle.job_form.specs.declared.tokens.Token.{Token}
 use Rattle.job_reading.specs.declared.state.Due.{Due}
 use Rattle.job_reading.specs.declared.state.State.{State}
@@ -14,7 +16,7 @@ use Rattle.job_reading.specs.Steps.{Progress, byDue, Step, go, stop}
 use Rattle.job_form.specs.Words.{wordOf}
 use Rattle.job_reading.specs.Reading.{Reading, refused, accepted, refusal, lengthTests, algebrasIn, sizesIn, weightsIn, Answer, turned, given, answerOf, answered}
 use Rattle.job_form.specs.Buffer.{padded}
-use Rattle.job_steps.specs.inner.Tested.{Tested}
+use Rattle.job_steps.specs.inner.TestedBy.{TestedBy}
 use Rattle.job_form.specs.inner.Tallies.{noTally, tallied}
 
 -- A buffer of n words that was cleared.
@@ -27,9 +29,9 @@ pub record AllCleared (l m n : ℕ) (algebras sizes weights : List ℕ) : Type 0
   pub sizes-zero : Cleared m sizes
   pub weights-zero : Cleared n weights
 
--- The number of the tests before any line, for buffers of l, m and n words.
-pub record LengthsTested (l m n bytes number : ℕ) : Type 0 where
-  pub tested : Tested (lengthTests l m n bytes) number
+-- What the tests before any line give, for buffers of l, m and n words.
+pub record LengthsTested (l m n bytes : ℕ) (found : Tested) : Type 0 where
+  pub tested : TestedBy (lengthTests l m n bytes) found
 
 -- The state for what has been read into a buffer of n weights.
 abbrev pub stateOf : ℕ → Progress → State
@@ -43,9 +45,18 @@ stateOf n p = record {
   at = min (length (p .weights)) n;
 }
 
-abbrev pub nextOf : ℕ → Step → Next
-nextOf n (go p) = On (stateOf n p)
-nextOf n (stop k) = Stop k
+-- What a line leads to, with the number of its refusal: as the code answers it, and as the definition steps.
+pub data Led : Type 0 where
+  onward : State → Led
+  back : ℕ → Led
+
+abbrev pub ledBy : Next → Led
+ledBy (On s) = onward s
+ledBy (Stop reason) = back (reasonNumber reason)
+
+abbrev pub nextOf : ℕ → Step → Led
+nextOf n (go p) = onward (stateOf n p)
+nextOf n (stop k) = back k
 
 -- A row that was read after the weights of p.
 pub record RowOf (n : ℕ) (p : Progress) (ts : List Token) (tally : Tally) (at : ℕ) : Type 0 where
@@ -66,8 +77,8 @@ pub record Kept (p : Progress) (s : State) (algebras sizes weights : List ℕ) :
 
 -- The answer and the buffers after a step: of a refusal only the answer.
 abbrev pub Went : Step → Next → List ℕ → List ℕ → List ℕ → Type 0
-Went (go p) r algebras sizes weights = (s : State) × ((r ≡ On s) × Kept p s algebras sizes weights)
-Went (stop k) r algebras sizes weights = r ≡ Stop k
+Went (go p) r algebras sizes weights = (s : State) × ((ledBy r ≡ onward s) × Kept p s algebras sizes weights)
+Went (stop k) r algebras sizes weights = ledBy r ≡ back k
 
 abbrev pub JobsWent : Progress → Step → List ℕ → List ℕ → List ℕ → List ℕ → Type 0
 JobsWent p (go q) algebras sizes algebras′ sizes′ = JobsKept p algebras sizes → JobsKept q algebras′ sizes′

@@ -12,11 +12,11 @@ use Rattle.job_reading.specs.declared.state.State.{State}
 use Rattle.job_reading.specs.declared.state.Next.{Next}
 use Rattle.job_form.specs.declared.rows.Tally.{Tally}
 use Rattle.job_reading.specs.Steps.{Progress, step}
-use Rattle.job_steps.specs.inner.States.{stateOf, nextOf, RowOf, Kept, Went, JobsWent}
+use Rattle.job_steps.specs.inner.States.{stateOf, ledBy, nextOf, RowOf, Kept, Went, JobsWent}
 
 -- A form leads from a state to an answer.
 pub record Stepped (s : State) (f : Form) (r : Next) : Type 0 where
-  pub outcome : (n : ℕ) (p : Progress) → s ≡ stateOf n p → r ≡ nextOf n (step p f)
+  pub outcome : (n : ℕ) (p : Progress) → s ≡ stateOf n p → ledBy r ≡ nextOf n (step p f)
 
 -- The algebra and the size of a job after so many others are stored.
 pub record Noted (jobs : ℕ) (a : Algebra) (size : ℕ) (algebras sizes algebras′ sizes′ : List ℕ) : Type 0 where
@@ -30,7 +30,7 @@ pub record JobStepped (s : State) (size algebra : Token) (algebras sizes : List 
 
 -- A row does, by its tally and the place after its words.
 pub record RowStepped (s : State) (tally : Tally) (at : ℕ) (r : Next) : Type 0 where
-  pub outcome : (n : ℕ) (p : Progress) (ts : List Token) → s ≡ stateOf n p → RowOf n p ts tally at → r ≡ nextOf n (step p (row ts))
+  pub outcome : (n : ℕ) (p : Progress) (ts : List Token) → s ≡ stateOf n p → RowOf n p ts tally at → ledBy r ≡ nextOf n (step p (row ts))
 
 -- A line leads from a state and three buffers to an answer and those buffers.
 pub record Advanced (line : List ℕ) (s : State) (algebras sizes weights : List ℕ) (r : Next) (algebras′ sizes′ weights′ : List ℕ) : Type 0 where

@@ -10,13 +10,17 @@ read-spec =
     (tie.spec
     (λ c κs. search needs)
     (λ c κs. search needs)
-    (λ c κs. search needs)
     (λ c. search needs)
-    (λ c. search needs)
-    (λ c. search needs)
-    (λ c. search (refused-first, c .before .if1 .taken) depth 9)
     (λ c κs. (search text-fits, search cleared))
     (λ c. search needs)
+    (λ c κs. search needs)
+    -- no test before the lines applied
     (λ c. search needs)
     (λ c. search needs)
-    (λ c. search read-lines depth 9))
+    (λ c. search needs)
+    (λ c. search read-lines depth 9)
+    -- one did
+    (λ c. search needs)
+    (λ c. search needs)
+    (λ c. search needs)
+    (λ c. search refused-first depth 9))

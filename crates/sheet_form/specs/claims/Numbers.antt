@@ -6,8 +6,7 @@ use Rattle.job_list.specs.Jobs.{Jobs, count, size, jobsOf, Entry}
 use Rattle.systolic.specs.Tick.{leaves}
 use Rattle.text.specs.Numeral.{shown}
 use Rattle.text.specs.claims.Numerals.{NumeralOf}
-use Rattle.job_reading.specs.declared.answer.Refusal.{Refusal}
-use Rattle.job_reading.specs.Reading.{refused, accepted, readingOf}
+use Rattle.job_reading.specs.Reading.{Refusal, refused, accepted, readingOf}
 use Rattle.sheet_form.specs.claims.Demand.{closureWords}
 
 abbrev pub ShownWhole : ℕ → Type 0

@@ -10,6 +10,8 @@ close-step-spec =
     (tie.spec
     (λ c κs. search needs)
     (λ c κs. search needs)
-    (λ c. search (close-stops, c .if1 .taken))
+    (λ c. search needs)
     (λ c κs. search needs)
-    (λ c. search close-goes))
+    (λ c. search needs)
+    (λ c. search close-goes)
+    (λ c. search close-stops))

@@ -10,6 +10,8 @@ list-step-spec =
     (tie.spec
     (λ c κs. search needs)
     (λ c κs. search needs)
-    (λ c. search (list-stops, c .if1 .taken))
+    (λ c. search needs)
     (λ c κs. search needs)
-    (λ c. search list-goes))
+    (λ c. search needs)
+    (λ c. search list-goes)
+    (λ c. search list-stops))

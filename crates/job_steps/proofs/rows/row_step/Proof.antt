@@ -10,7 +10,9 @@ row-step-spec =
     (tie.spec
     (λ c κs. search needs)
     (λ c κs. search needs)
-    (λ c. search (row-stops, c .if1 .taken))
+    (λ c. search needs)
     (λ c κs. search needs)
     (λ c κs. search needs)
-    (λ c. search row-goes))
+    (λ c. search needs)
+    (λ c. search row-goes)
+    (λ c. search row-stops))
