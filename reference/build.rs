@@ -1,6 +1,6 @@
-// Links the archives of the proved crates, libarray.a, libpaths.a, libroad_text.a, libsheet.a and libtraceback.a: from
-// the folder that RAUDVISK_ARCHIVES names, else from target/staticlib of the repository. Without them all is built
-// nevertheless, since compare_bench and most tests need none; what calls an archive stops at its first call and says so.
+// Links libraudvisk.a, the archive of the proved calls: from the folder that RAUDVISK_ARCHIVES names, else from
+// target/staticlib of the repository. Without it all is built nevertheless, since compare_bench and most tests need none;
+// what calls it stops at its first call and says so.
 use std::env;
 use std::path::{Path, PathBuf};
 
@@ -10,21 +10,17 @@ fn main() {
         Some(folder) => PathBuf::from(folder),
         None => Path::new(&package).join("../target/staticlib"),
     };
+    let archive = folder.join("libraudvisk.a");
     println!("cargo:rerun-if-env-changed=RAUDVISK_ARCHIVES");
-    println!("cargo:rustc-link-search=native={}", folder.display());
-    for name in ["array", "paths", "road_text", "sheet", "traceback"] {
-        let archive = folder.join(format!("lib{name}.a"));
-        // A new archive is linked anew, so that no run tests an old one.
-        println!("cargo:rerun-if-changed={}", archive.display());
-        println!("cargo:rustc-check-cfg=cfg({name}_archive)");
-        if archive.exists() {
-            println!("cargo:rustc-cfg={name}_archive");
-            println!("cargo:rustc-link-lib=static={name}");
-        } else {
-            println!(
-                "cargo:warning=no {}: build it with rt staticlib",
-                archive.display()
-            );
-        }
+    // A new archive is linked anew, so that no run tests an old one.
+    println!("cargo:rerun-if-changed={}", archive.display());
+    println!("cargo:rustc-check-cfg=cfg(host_archive)");
+    if archive.exists() {
+        println!("cargo:rustc-cfg=host_archive");
+        println!("cargo:rustc-link-search=native={}", folder.display());
+        println!("cargo:rustc-link-lib=static=raudvisk");
+    } else {
+        let path = archive.display();
+        println!("cargo:warning=no {path}: build it with rt staticlib raudvisk");
     }
 }

@@ -17,11 +17,7 @@ impl Algebra {
     }
 
     pub fn number(self) -> u32 {
-        match self {
-            Algebra::Reach => 0,
-            Algebra::Distance => 1,
-            Algebra::Steepest => 2,
-        }
+        self as u32
     }
 
     pub fn name(self) -> &'static str {

@@ -42,4 +42,27 @@ impl Random {
     pub fn bytes(&mut self, len: usize) -> Vec<u8> {
         (0..len).map(|_| (self.next_u64() >> 56) as u8).collect()
     }
+
+    /// A large number: many are `right` where high bits are dropped, or where its square wraps.
+    pub fn large(&mut self, right: usize) -> usize {
+        let any = (self.next_u64() >> 8) as usize | 1 << 16;
+        let bits = self.pick(&[8, 16, 32, 63]);
+        self.pick(&[(1 << bits) + right, 1 << bits, usize::MAX - right, any])
+    }
+
+    /// Another length or count than `right`: near it, or of bytes in the place of words, or one of `others`.
+    pub fn not(&mut self, right: usize, others: &[usize]) -> usize {
+        let near = [right.wrapping_sub(1), right + 1, right / 2, right * 2];
+        let far = [0, 256 + right, 65536 + right, self.below(2 * right + 8)];
+        let at = self.below(8 + 2 * others.len());
+        let drawn = match at {
+            0..4 => near[at],
+            4..8 => far[at - 4],
+            _ => others[at % others.len()],
+        };
+        match drawn == right || drawn == usize::MAX {
+            true => right + 1,
+            false => drawn,
+        }
+    }
 }

@@ -5,10 +5,10 @@ use reference::algebra::Algebra::{self, Distance, Reach, Steepest};
 use reference::elimination::tables::Kind;
 use reference::job_text::JobList;
 use reference::random::Random;
-use reference::systolic::memory::{OwnJobs, RunCall, StartCall};
-use reference::systolic::moments::{allowance, Pace};
-use reference::systolic::rows::{Lent, RowArray};
-use reference::systolic::{part_starts, run};
+use reference::systolic::memory::{Call, OwnJobs, RunCall, StartCall};
+use reference::systolic::moments::{allowance, any_list, right_run, right_start, Pace};
+use reference::systolic::rows::RowArray;
+use reference::systolic::run;
 use reference::texts::lists::{drawn_list, Sizes};
 
 const NONE: u16 = 65535;
@@ -31,7 +31,7 @@ fn started(list: &JobList) -> RunCall {
         jobs: OwnJobs::of(list),
         state: vec![9; 4 + 3 * order * order],
     };
-    assert_eq!(start.make(), 0);
+    assert_eq!(start.model(), 0);
     RunCall {
         state: start.state,
         jobs: start.jobs,
@@ -46,7 +46,7 @@ fn started(list: &JobList) -> RunCall {
 fn advance(call: &mut RunCall, allowance: u16) -> u16 {
     call.allowance = allowance;
     call.scratch.fill(7);
-    assert_eq!(call.make(), 0);
+    assert_eq!(call.model(), 0);
     assert!(call.scratch.iter().all(|&word| word == 0));
     call.made
 }
@@ -72,6 +72,22 @@ fn one_point() {
     assert_eq!((call.state[3], call.results[0]), (4, 1));
     assert_eq!(advance(&mut call, 5), 0);
     assert_eq!((call.state[3], call.results[0]), (4, 1));
+}
+
+/// B11: orders 32 and 33, 16 and 17 jobs, and a reach word of 2.
+#[test]
+fn borders_of_start() {
+    for (order, jobs, word, number) in [
+        (32, 16, 1, 0),
+        (33, 16, 1, 6),
+        (32, 17, 1, 7),
+        (32, 0, 1, 7),
+        (32, 16, 2, 5),
+    ] {
+        let list = jobs_of(order, &vec![Reach; jobs], &vec![1; jobs], &vec![word; jobs]);
+        let mut call = right_start(&mut Random::new(11), &list);
+        assert_eq!(call.model(), number, "{order} {jobs} {word}");
+    }
 }
 
 /// B10: job 1's words leave on ticks 23, 24, 24 and 25, and on no other does a word of its part change.
@@ -177,19 +193,13 @@ fn pieces_make_the_whole() {
         for jobs in 1..=4 {
             let sizes = random.pick(&Sizes::ALL);
             let list = drawn_list(&mut random, order, jobs, sizes, &Kind::ALL);
-            let lent = Lent {
-                algebras: &list.algebras,
-                sizes: &list.sizes,
-                starts: &part_starts(&list.sizes),
-                weights: &list.weights,
-            };
-            let mut rows = RowArray::start(order, jobs);
+            let mut rows = RowArray::start(&list);
             let mut row_results = vec![7; list.weights.len()];
             let mut call = started(&list);
             while call.header().ticks_left() > 0 {
                 let ticks = allowance(&mut random, Pace::Pieces, &call);
                 let made = advance(&mut call, ticks);
-                let rows_made = rows.run(ticks.into(), &lent, &mut row_results);
+                let rows_made = rows.run(ticks.into(), &list, &mut row_results);
                 assert_eq!(usize::from(made), rows_made);
                 assert_eq!(call.results, row_results, "{list:?}");
             }
@@ -202,4 +212,30 @@ fn pieces_make_the_whole() {
             );
         }
     }
+}
+
+/// A comparison that overlooks a word would pass anything there.
+#[test]
+fn every_difference_is_told() {
+    let mut random = Random::new(19);
+    let list = any_list(&mut random);
+    let right = right_run(&mut random, &list);
+    assert_eq!(right.compare(&right), Ok(()));
+    let changes: [fn(&mut RunCall); 5] = [
+        |call| call.made ^= 1,
+        |call| call.state[0] ^= 1,
+        |call| *call.state.last_mut().unwrap() ^= 1,
+        |call| *call.results.last_mut().unwrap() ^= 1,
+        |call| *call.scratch.last_mut().unwrap() ^= 1,
+    ];
+    for change in changes {
+        let mut wrong = right.clone();
+        change(&mut wrong);
+        assert!(wrong.compare(&right).is_err());
+    }
+    let start = right_start(&mut random, &list);
+    let mut wrong = start.clone();
+    *wrong.state.last_mut().unwrap() ^= 1;
+    assert_eq!(start.compare(&start), Ok(()));
+    assert!(wrong.compare(&start).is_err());
 }

@@ -1,14 +1,14 @@
 //! Tests of Start and Run that are wrong about the algebras: the damages that compare_array makes, and right calls, have
 //! to tell each of them from the right ones.
 
+use reference::damages::{damage_sets, damaged, Damage, Set};
 use reference::job_text::JobList;
 use reference::random::Random;
-use reference::systolic::damage_sets::damage_sets;
 use reference::systolic::memory::{OwnJobs, RunCall, StartCall};
 use reference::systolic::moments::{any_list_where, right_run, right_start};
 use reference::systolic::refusal::{run_refusal, start_refusal};
-use reference::systolic::run_damages::{damage_run, RunDamage};
-use reference::systolic::start_damages::{damage_start, StartDamage};
+use reference::systolic::run_damages::RUN_DAMAGES;
+use reference::systolic::start_damages::START_DAMAGES;
 
 /// One set of damages in so many is made here.
 const EVERY: usize = 50;
@@ -60,10 +60,7 @@ const WRONG_STARTS: [Wrong<StartCall>; 2] = [
     ),
     ("7 before 1", |mut call| {
         let right = start_number(&call);
-        call.jobs
-            .algebras
-            .iter_mut()
-            .for_each(|algebra| *algebra = 1);
+        call.jobs.algebras.fill(1);
         match start_number(&call) {
             7 => 7,
             _ => right,
@@ -97,14 +94,23 @@ fn run_number(call: &RunCall) -> u32 {
     run_refusal(&call.state, call.jobs.lent(), scratch, results)
 }
 
-/// Some of the sets of damages, and none.
-fn some_sets<D: Copy>(random: &mut Random, all: &[D]) -> Vec<Vec<D>> {
-    let mut sets: Vec<Vec<D>> = damage_sets(random, all)
+/// Calls with some of the sets of damages, and right ones.
+fn some_calls<Call: Clone>(
+    random: &mut Random,
+    all: &'static [Damage<Call>],
+    right: fn(&mut Random, &JobList) -> Call,
+) -> Vec<Call> {
+    let mut sets: Vec<Set<Call>> = damage_sets(random, all)
         .into_iter()
         .step_by(EVERY)
         .collect();
     sets.extend(vec![Vec::new(); RIGHT_CALLS]);
-    sets
+    let call = |set: &Set<Call>| {
+        let list = any_list_where(random, JobList::has_reach);
+        let right = right(random, &list);
+        damaged(random, &right, set)
+    };
+    sets.iter().map(call).collect()
 }
 
 /// Whether each of the wrong tests gives another number for some call.
@@ -118,44 +124,32 @@ fn assert_found<Call: Clone>(calls: &[Call], right: fn(&Call) -> u32, wrong: &[W
     }
 }
 
-#[test]
-fn wrong_starts_are_found() {
-    let mut random = Random::new(20);
-    let mut calls = Vec::new();
-    for damages in some_sets(&mut random, &StartDamage::ALL) {
-        let list = any_list_where(&mut random, JobList::has_reach);
-        let mut call = right_start(&mut random, &list);
-        damage_start(&mut random, &mut call, &damages);
-        calls.push(call);
-    }
-    assert_found(&calls, start_number, &WRONG_STARTS);
+/// The same of a fault of both: a call whose jobs are seen otherwise is told from the right one.
+fn assert_both_found<Call: Clone>(
+    calls: &[Call],
+    jobs: fn(&mut Call) -> &mut OwnJobs,
+    number: fn(&Call) -> u32,
+) {
     for (what, fault) in FAULTS_OF_BOTH {
         let is_found = calls.iter().any(|call| {
             let mut seen = call.clone();
-            fault(&mut seen.jobs);
-            start_number(&seen) != start_number(call)
+            fault(jobs(&mut seen));
+            number(&seen) != number(call)
         });
         assert!(is_found, "{what}");
     }
 }
 
 #[test]
+fn wrong_starts_are_found() {
+    let calls = some_calls(&mut Random::new(20), &START_DAMAGES, right_start);
+    assert_found(&calls, start_number, &WRONG_STARTS);
+    assert_both_found(&calls, |call| &mut call.jobs, start_number);
+}
+
+#[test]
 fn wrong_runs_are_found() {
-    let mut random = Random::new(21);
-    let mut calls = Vec::new();
-    for damages in some_sets(&mut random, &RunDamage::ALL) {
-        let list = any_list_where(&mut random, JobList::has_reach);
-        let mut call = right_run(&mut random, &list);
-        damage_run(&mut random, &mut call, &damages);
-        calls.push(call);
-    }
+    let calls = some_calls(&mut Random::new(21), &RUN_DAMAGES, right_run);
     assert_found(&calls, run_number, &WRONG_RUNS);
-    for (what, fault) in FAULTS_OF_BOTH {
-        let is_found = calls.iter().any(|call| {
-            let mut seen = call.clone();
-            fault(&mut seen.jobs);
-            run_number(&seen) != run_number(call)
-        });
-        assert!(is_found, "{what}");
-    }
+    assert_both_found(&calls, |call| &mut call.jobs, run_number);
 }

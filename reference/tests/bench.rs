@@ -3,16 +3,12 @@
 
 use reference::bench::sheet::{accepted, sheet};
 use reference::elimination::tables::Kind;
-use reference::job_text::{read, Job, JobList, Refusal};
+use reference::job_text::{read, JobList};
 use reference::random::Random;
 use reference::systolic::checks::check;
-use reference::systolic::rows::{Lent, RowArray};
-use reference::systolic::{part_starts, run, Outcome};
+use reference::systolic::run;
 use reference::texts::border::{border_texts, LISTING};
-use reference::texts::byte_damage::{damaged_bytes, senseless_text};
-use reference::texts::damage::{damaged_text, mixed_text, NUMBERS};
 use reference::texts::lists::{drawn_list, largest_list, small_list, Sizes};
-use reference::texts::long::long_text;
 use reference::texts::writing::{text, Freedom};
 
 fn printed(text: &str) -> String {
@@ -88,37 +84,6 @@ fn a_wrong_none_is_found() {
     }
 }
 
-/// Of the lists with several jobs two in three, more or less.
-#[test]
-fn lists_are_mixed() {
-    let mut random = Random::new(9);
-    let lists: Vec<JobList> = (0..3_000).map(|_| small_list(&mut random)).collect();
-    let several: Vec<&JobList> = lists.iter().filter(|list| list.sizes.len() > 1).collect();
-    let mixed = several.iter().filter(|list| list.is_mixed()).count();
-    let share = mixed as f64 / several.len() as f64;
-    assert!((0.62..0.71).contains(&share), "{share}");
-}
-
-/// Neighbours have the links of one hall, as far as both go, and differ in size or in algebra.
-#[test]
-fn one_hall_has_several_jobs() {
-    let mut random = Random::new(10);
-    for order in 2..=8 {
-        let list = drawn_list(&mut random, order, 16, Sizes::SameHall, &[Kind::Sparse]);
-        for pair in list.jobs().windows(2) {
-            let [before, after] = [pair[0], pair[1]];
-            let differ = before.size != after.size || before.algebra != after.algebra;
-            assert!(differ, "{list:?}");
-            let common = before.size.min(after.size);
-            for (i, j) in (0..common * common).map(|at| (at / common, at % common)) {
-                let is_link = |job: &Job| job.weights[i * job.size + j] != job.algebra.none();
-                let same = is_link(&before) == is_link(&after);
-                assert!(i == j || same, "{list:?}");
-            }
-        }
-    }
-}
-
 #[test]
 fn borders() {
     for (text, wanted) in border_texts() {
@@ -134,22 +99,13 @@ fn borders() {
 #[test]
 fn written_lists_are_read() {
     let mut random = Random::new(3);
-    for _ in 0..2_000 {
-        let list = small_list(&mut random);
-        let freedom = Freedom::any(&mut random);
+    for at in 0..2_000 {
+        let (list, freedom) = match at % 40 {
+            0 => (largest_list(&mut random), Freedom(20)),
+            _ => (small_list(&mut random), Freedom::any(&mut random)),
+        };
         let text = text(&mut random, freedom, &list);
         assert_eq!(read(&text), Ok(list), "{}", text.escape_ascii());
-    }
-}
-
-#[test]
-fn largest_lists_are_read() {
-    let mut random = Random::new(4);
-    for _ in 0..60 {
-        let list = largest_list(&mut random);
-        let freedom = Freedom(random.pick(&[0, 20]));
-        let text = text(&mut random, freedom, &list);
-        assert_eq!(read(&text), Ok(list));
     }
 }
 
@@ -163,65 +119,5 @@ fn the_array_eliminates() {
             let list = drawn_list(&mut random, order, jobs, sizes, &Kind::ALL);
             assert_eq!(check(&list, &run(&list)), Ok(()), "{list:?}");
         }
-    }
-}
-
-/// The results as they are before the tick numbered `ticks`.
-fn left_before(list: &JobList, outcome: &Outcome, ticks: usize) -> Vec<u16> {
-    let starts = part_starts(&list.sizes);
-    let mut results = vec![7; outcome.results.len()];
-    for leaving in &outcome.leavings {
-        let size = usize::from(list.sizes[leaving.job]);
-        let at = starts[leaving.job] + leaving.row * size + leaving.column;
-        if leaving.tick < ticks {
-            results[at] = outcome.results[at];
-        }
-    }
-    results
-}
-
-/// Both arrays leave the same words on the same ticks, in runs of any length.
-#[test]
-fn both_arrays_agree() {
-    let mut random = Random::new(6);
-    for order in 1..=32 {
-        for jobs in 1..=4 {
-            let sizes = random.pick(&Sizes::ALL);
-            let list = drawn_list(&mut random, order, jobs, sizes, &Kind::ALL);
-            let outcome = run(&list);
-            let lent = Lent {
-                algebras: &list.algebras,
-                sizes: &list.sizes,
-                starts: &part_starts(&list.sizes),
-                weights: &list.weights,
-            };
-            let mut rows = RowArray::start(order, jobs);
-            let mut results = vec![7; list.weights.len()];
-            let mut ticks = 0;
-            while ticks < outcome.ticks {
-                ticks += rows.run(random.below(30), &lent, &mut results);
-                assert_eq!(results, left_before(&list, &outcome, ticks), "{list:?}");
-            }
-            assert_eq!(ticks, outcome.ticks);
-            assert_eq!(rows.run(5, &lent, &mut results), 0);
-        }
-    }
-}
-
-/// A damage meant for a refusal leads there often, and the reader takes any bytes.
-#[test]
-fn damages_lead_to_their_refusals() {
-    let mut random = Random::new(7);
-    for wanted in NUMBERS {
-        let mut met = 0;
-        for _ in 0..400 {
-            let refusal = read(&damaged_text(&mut random, wanted)).err();
-            met += usize::from(matches!(refusal, Some(Refusal { number, .. }) if number == wanted));
-        }
-        assert!(met >= 100, "refusal {wanted}: {met} of 400");
-    }
-    for _ in 0..400 {
-        let makers = [damaged_bytes, mixed_text, senseless_text, long_text];
-        let _ = sheet(&random.pick(&makers)(&mut random));
     }
 }

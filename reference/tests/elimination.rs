@@ -1,15 +1,12 @@
-//! The reference itself, held against what document 01 says apart from the elimination: the bench cards, ways, and the
-//! order of the tests.
+//! The reference itself, held against what document 01 says apart from the elimination: the bench cards and ways.
 
 use reference::algebra::Algebra::{self, Distance, Reach, Steepest};
-use reference::elimination::damages::damaged_call;
-use reference::elimination::eliminate;
-use reference::elimination::host_call::{bytes_of, words_of};
 use reference::elimination::lengths::{has_far_and_none, lengths, word_of};
-use reference::elimination::refusal::{refusal, NUMBERS};
 use reference::elimination::rust_loop::{joined, RustLoop};
 use reference::elimination::sse2;
 use reference::elimination::tables::{table, Kind};
+use reference::elimination::{bytes_of, eliminate, words_of};
+use reference::job_text::Job;
 use reference::random::Random;
 
 const NONE: u16 = 65535;
@@ -87,36 +84,19 @@ fn the_loops_product_is_the_same() {
     }
 }
 
-/// The ways from a point to another: lists of points, repeats allowed.
-struct Ways<'a> {
-    algebra: Algebra,
-    size: usize,
-    weights: &'a [u16],
-    to: usize,
-}
-
-impl Ways<'_> {
-    /// The sum of `best` and the words of all ways that begin with a list which ends at `at` and has the word `word`,
-    /// and go on with at most `left` links.
-    fn best(&self, at: usize, word: u16, left: usize, mut best: u16) -> u16 {
-        if at == self.to {
-            best = self.algebra.sum(best, word);
-        }
-        if left > 0 {
-            for next in 0..self.size {
-                let joined = self.algebra.product(word, self.link(at, next));
-                best = self.best(next, joined, left - 1, best);
-            }
-        }
-        best
-    }
-
-    fn link(&self, from: usize, to: usize) -> u16 {
-        match from == to {
-            true => self.algebra.own(),
-            false => self.weights[from * self.size + to],
-        }
-    }
+/// The sum of the words of all ways to `to`, repeats allowed, that begin with a list which ends at `at` and has the word
+/// `word`, and go on with at most `left` links.
+fn best(table: Job, at: usize, to: usize, word: u16, left: usize) -> u16 {
+    let Job { algebra, size, .. } = table;
+    let here = if at == to { word } else { algebra.none() };
+    let onward = (0..size).filter(|_| left > 0).map(|next| {
+        let link = match next == at {
+            true => algebra.own(),
+            false => table.weights[at * size + next],
+        };
+        best(table, next, to, algebra.product(word, link), left - 1)
+    });
+    onward.fold(here, |sum, word| algebra.sum(sum, word))
 }
 
 /// One link more than a way without a repeated point can have.
@@ -128,32 +108,11 @@ fn each_entry_is_the_best_of_all_ways() {
             for kind in Kind::ALL {
                 let weights = &table(&mut random, algebra, size, kind);
                 let closure = eliminate(algebra, size, weights);
+                let table = Job::new(algebra, size, weights);
                 for (at, &entry) in closure.iter().enumerate() {
-                    let to = at % size;
-                    let ways = Ways {
-                        algebra,
-                        size,
-                        weights,
-                        to,
-                    };
-                    let best = ways.best(at / size, algebra.own(), size, algebra.none());
+                    let best = best(table, at / size, at % size, algebra.own(), size);
                     assert_eq!(entry, best, "{algebra:?} {weights:?} {at}");
                 }
-            }
-        }
-    }
-}
-
-#[test]
-fn the_first_damage_is_the_refusal() {
-    let mut random = Random::new(2);
-    for first in NUMBERS {
-        for second in first..=5 {
-            for _ in 0..200 {
-                let call = damaged_call(&mut random, &[first, second]);
-                let (weights, result_len) = (&call.weights, call.result_len);
-                let number = refusal(call.algebra, call.size, weights.len(), result_len, weights);
-                assert_eq!(number, first, "{call:?}");
             }
         }
     }

@@ -1,6 +1,6 @@
 //! The readers of road files on files whose tables and numbers are known by hand.
 
-use reference::road::border::BORDER;
+use reference::road::border::border_files;
 use reference::road::{one_walk, reader, Read, WORDS};
 
 /// None.
@@ -32,13 +32,13 @@ fn assert_refused(file: &[u8], len: usize, number: u32) {
 
 #[test]
 fn borders() {
-    for &(file, number) in BORDER {
+    for (file, number) in border_files() {
         match number {
             0 => READERS.iter().for_each(|read| {
-                let answer = read(file.as_bytes(), &mut [7; WORDS]);
-                assert!(answer.is_ok(), "{file:?}");
+                let answer = read(file, &mut [7; WORDS]);
+                assert!(answer.is_ok(), "{}", file.escape_ascii());
             }),
-            number => assert_refused(file.as_bytes(), WORDS, number),
+            number => assert_refused(file, WORDS, number),
         }
     }
 }
@@ -56,71 +56,6 @@ fn a_hall_is_read() {
                 a 3 1 158\n\
                 a 2 3 0\n";
     assert_table(file, 3, &[0, 803, N, 804, 0, 0, 158, N, 0]);
-}
-
-#[test]
-fn a_pair_with_no_arc_is_none() {
-    assert_table("p sp 1 0", 1, &[0]);
-    assert_table("p sp 2 0\n", 2, &[0, N, N, 0]);
-    assert_table("p sp 3 0\n", 3, &[0, N, N, N, 0, N, N, N, 0]);
-}
-
-/// Wherever it comes among the arcs for the pair.
-#[test]
-fn the_shortest_stands() {
-    for lengths in [
-        [5, 6, 7],
-        [6, 5, 7],
-        [7, 6, 5],
-        [5, 5, 6],
-        [70000, 5, 65534],
-    ] {
-        let [x, y, z] = lengths;
-        let file = format!("p sp 2 4\na 1 2 {x}\na 1 2 {y}\na 2 1 9\na 1 2 {z}\n");
-        assert_table(&file, 2, &[0, 5, 9, 0]);
-    }
-}
-
-#[test]
-fn a_length_is_held_at_65534() {
-    for (length, word) in [
-        ("0", 0),
-        ("00", 0),
-        ("1", 1),
-        ("65533", 65533),
-        ("65534", 65534),
-        ("65535", 65534),
-        ("65536", 65534),
-        ("131072", 65534),
-        ("4294967295", 65534),
-        ("4294967296", 65534),
-        ("4294967301", 65534),
-        ("9999999999", 65534),
-        ("0000000012", 12),
-    ] {
-        let file = format!("p sp 2 1\na 2 1 {length}");
-        assert_table(&file, 2, &[0, N, word, 0]);
-    }
-}
-
-/// They count towards ARCS, and their points are tested.
-#[test]
-fn an_arc_to_itself_is_dropped() {
-    assert_table("p sp 2 2\na 1 1 5\na 2 2 0\n", 2, &[0, N, N, 0]);
-    assert_table("p sp 1 2\na 1 1 5\na 1 1 9999999999\n", 1, &[0]);
-    assert_refused(b"p sp 2 0\na 1 1 5\n", WORDS, 23);
-    assert_refused(b"p sp 2 1\na 3 3 5\n", WORDS, 22);
-    assert_refused(b"p sp 2 1\na 0 0 5\n", WORDS, 22);
-}
-
-/// Row by row with as many words as points, up to the last word of the buffer.
-#[test]
-fn the_largest_table_fills_the_buffer() {
-    let mut words = vec![N; WORDS];
-    (0..128).for_each(|at| words[129 * at] = 0);
-    (words[127], words[128], words[WORDS - 2]) = (3, 4, 5);
-    let file = "p sp 128 3\na 1 128 3\na 2 1 4\na 128 127 5\n";
-    assert_table(file, 128, &words);
 }
 
 #[test]
@@ -143,29 +78,6 @@ fn a_wrong_buffer_is_refused() {
     for len in [0, 1, 4, 128, WORDS - 1, WORDS + 1, 2 * WORDS] {
         for file in ["p sp 2 1\na 1 2 3\n", "p sp 129 0", "p sp 2 1", "x", ""] {
             assert_refused(file.as_bytes(), len, 21);
-        }
-    }
-}
-
-/// Nothing but LF, spaces and digits stands for them.
-#[test]
-fn no_other_byte_is_taken() {
-    for byte in 0..=255 {
-        let at_end = [b"p sp 1 0", [byte].as_slice()].concat();
-        let in_space = [b"p sp", [byte].as_slice(), b"1 0"].concat();
-        let in_numeral = [b"p sp 0", [byte].as_slice(), b"1 0"].concat();
-        let first = [[byte].as_slice(), b" sp 1 0"].concat();
-        if !matches!(byte, b'\n' | b'0'..=b'9') {
-            assert_refused(&at_end, WORDS, 21);
-        }
-        if byte != b' ' {
-            assert_refused(&in_space, WORDS, 21);
-        }
-        if !byte.is_ascii_digit() {
-            assert_refused(&in_numeral, WORDS, 21);
-        }
-        if byte != b'p' {
-            assert_refused(&first, WORDS, 21);
         }
     }
 }

@@ -2,19 +2,50 @@
 
 mod wrong_roads;
 
+use reference::calls::{Calls, Model};
+use reference::comparison::Comparison;
 use reference::random::Random;
-use reference::road::calls::{Call, Model, MODEL};
-use reference::road::comparison::Comparison;
-use reference::road::kinds::Kind;
+use reference::road::border::neighbours;
+use reference::road::kinds::{Kind, KINDS};
 use reference::road::memory::Memory;
-use reference::road::one_walk;
+use reference::road::{one_walk, WORDS};
 use wrong_roads::faults::Fault;
-use wrong_roads::{found, Reader};
+use wrong_roads::Reader;
+
+/// The first difference of some files: a part of each kind, and then a file's neighbours.
+fn found(calls: impl Calls) -> Option<String> {
+    let mut comparison = Comparison::new(calls, 43);
+    for kind in &KINDS {
+        for _ in 0..kind.1 / 10 {
+            if let Err(what) = comparison.compare_kind(kind) {
+                return Some(what);
+            }
+        }
+    }
+    let mut compared = neighbours()
+        .into_iter()
+        .map(|file| comparison.compare_file(&file, None));
+    compared.find_map(Result::err)
+}
+
+struct Quick;
+
+impl Calls for Quick {
+    fn read(&self, file: &[u8], table: &mut [u16], points: &mut usize) -> u32 {
+        match one_walk::read(file, table) {
+            Ok(number) => {
+                *points = number;
+                0
+            }
+            Err(number) => number,
+        }
+    }
+}
 
 #[test]
 fn right_readers_agree() {
-    assert_eq!(found(MODEL), None);
-    assert_eq!(found(Model(one_walk::read)), None);
+    assert_eq!(found(Model), None);
+    assert_eq!(found(Quick), None);
     assert_eq!(found(Reader(None)), None);
 }
 
@@ -37,15 +68,8 @@ fn a_fault_is_told() {
         (Fault::RestIsJunk, "returned 0, word"),
         (Fault::JunkAtRefusal, "returned 21, word"),
         (Fault::TableAtRefusal, "word 1 of the table is"),
-        (
-            Fault::WrongBufferBeyond,
-            "buffer of 32768: returned 21, word 16384",
-        ),
+        (Fault::WrongBufferBeyond, ": returned 21, word 16384"),
         (Fault::PointsAtRefusal, "points are 0"),
-        (Fault::WordBefore, "words beside the table"),
-        (Fault::WordAfter, "words beside the table"),
-        (Fault::PointsBeside, "words beside the points"),
-        (Fault::FileChanged, "the file or bytes beside it"),
     ] {
         let what = found(Reader(Some(fault))).expect("a difference");
         assert!(what.contains(told), "{fault:?}: {what}");
@@ -53,47 +77,33 @@ fn a_fault_is_told() {
     }
 }
 
-/// Right but for one word or byte, wherever that is.
-struct Touching(fn(&mut Memory, usize), usize);
-
-impl Call for Touching {
-    fn read(&self, memory: &mut Memory) -> u32 {
-        let number = MODEL.read(memory);
-        (self.0)(memory, self.1);
-        number
-    }
-}
-
 /// Every word and byte of what is lent and beside it is watched.
 #[test]
 fn every_place_is_watched() {
-    let touch = |touch: fn(&mut Memory, usize), at: usize| {
-        let mut comparison = Comparison::new(Touching(touch, at), Random::new(44));
-        comparison.compare_file(b"p sp 2 1\na 1 2 7\n", Some(0))
+    let mut memory = Memory::new(&mut Random::new(44), b"p sp 2 1\na 1 2 7\n", WORDS);
+    let (file, table, points) = memory.lent();
+    let number = Model.read(file, table, points);
+    assert_eq!(memory.judge(number), Ok(Ok(2)));
+    let assert_watched = |len: usize, touch: fn(&mut Memory, usize)| {
+        for at in 0..len {
+            let mut touched = memory.clone();
+            touch(&mut touched, at);
+            assert!(touched.judge(number).is_err(), "{at}");
+        }
     };
-    assert_eq!(touch(|_, _| (), 0), Ok(Ok(2)));
-    for at in (0..40).chain(16_380..16_400) {
-        assert!(touch(|memory, at| memory.words[at] ^= 1, at).is_err());
-    }
-    for at in 0..40 {
-        assert!(touch(|memory, at| memory.bytes[at] ^= 1, at).is_err());
-    }
-    for at in 0..3 {
-        assert!(touch(|memory, at| memory.points[at] ^= 1, at).is_err());
-    }
+    let (file, table) = (&memory.file.words, &memory.table.words);
+    assert_watched(file.len(), |memory, at| memory.file.words[at] ^= 1);
+    assert_watched(table.len(), |memory, at| memory.table.words[at] ^= 1);
+    let points = memory.points.words.len();
+    assert_watched(points, |memory, at| memory.points.words[at] ^= 1);
 }
 
 /// A file that is read otherwise than it was made for is told too.
 #[test]
 fn a_wrong_maker_is_found() {
-    let kind = Kind {
-        files: 1,
-        number: Some(22),
-        make: |_| b"p sp 1 0".to_vec(),
-    };
-    let mut comparison = Comparison::new(MODEL, Random::new(45));
-    let what = comparison.compare(&kind).expect_err("a difference");
-    assert!(what.contains("made for 22, read as 0"), "{what}");
-    assert!(comparison.compare_big(b"p sp 1 0", 21).is_err());
-    assert_eq!(comparison.tally.files(), 0);
+    let mut comparison = Comparison::new(Model, 45);
+    let kind: Kind = ("wrong", 1, Some(22), |_, _| {});
+    let what = comparison.compare_kind(&kind).expect_err("a difference");
+    assert!(what.contains("made for Some(22), read as 0"), "{what}");
+    assert_eq!(comparison.tally.sum("answers"), 0);
 }

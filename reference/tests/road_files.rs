@@ -2,9 +2,7 @@
 
 use reference::random::Random;
 use reference::road::big::{all_pairs, long_comments, many_arcs, mostly_comments, padded};
-use reference::road::border::neighbours;
 use reference::road::draft::{any_arcs, any_points, Draft};
-use reference::road::kinds::KINDS;
 use reference::road::style::Arc;
 use reference::road::{one_walk, reader, Answer, WORDS};
 
@@ -48,34 +46,6 @@ fn drafts_are_read_as_they_were_meant() {
         assert_eq!(answer, Ok(points as usize));
         assert!(table == wanted, "\"{}\"", draft.text().escape_ascii());
     }
-}
-
-#[test]
-fn each_kind_has_its_number() {
-    let mut random = Random::new(51);
-    for (at, kind) in KINDS.iter().enumerate() {
-        for _ in 0..300 {
-            let file = (kind.make)(&mut random);
-            let (answer, _) = read(&file);
-            let number = answer.err().unwrap_or(0);
-            let shown = file.escape_ascii();
-            assert_eq!(number, kind.number.unwrap_or(number), "{at}: \"{shown}\"");
-        }
-    }
-}
-
-/// All four answers are among them.
-#[test]
-fn neighbours_are_read_alike() {
-    let files = neighbours();
-    let numbers: Vec<u32> = files
-        .iter()
-        .map(|file| read(file).0.err().unwrap_or(0))
-        .collect();
-    for number in [0, 21, 22, 23] {
-        assert!(numbers.contains(&number), "{number}");
-    }
-    assert!(files.iter().any(Vec::is_empty));
 }
 
 #[test]

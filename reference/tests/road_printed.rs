@@ -1,11 +1,10 @@
 //! What the program over the reader has to print, and what is said of one that prints something else.
 
 use reference::bench::program_call::told;
-use reference::random::Random;
-use reference::road::calls::MODEL;
-use reference::road::comparison::Comparison;
+use reference::calls::Model;
+use reference::comparison::Comparison;
 use reference::road::printed::{judge_printed, printed};
-use reference::road::tally::LONGEST;
+use reference::road::LONGEST;
 use std::path::Path;
 
 fn shown(file: &str) -> String {
@@ -74,14 +73,14 @@ fn a_file_too_long_is_told() {
 /// A program is given the file that was named, and a failing one is told.
 #[test]
 fn a_program_is_compared() {
-    let mut comparison = Comparison::new(MODEL, Random::new(53));
+    let mut comparison = Comparison::new(Model, 53);
     let file = b"p sp 1 0";
-    let right = |given: &[u8]| Ok([printed(given), Vec::new()]);
-    assert_eq!(comparison.compare_printed(file, Ok(1), right), Ok(()));
-    let wrong = |_: &[u8]| Ok([b"1\n".to_vec(), Vec::new()]);
-    assert!(comparison.compare_printed(file, Ok(1), wrong).is_err());
-    let failing = |_: &[u8]| Err("no such program".to_string());
-    let what = comparison.compare_printed(file, Ok(1), failing);
+    let right = |given: &[u8], _: usize| Ok([printed(given), Vec::new()]);
+    assert_eq!(comparison.compare_printed(file, Ok(1), 1, &right), Ok(()));
+    let wrong = |_: &[u8], _: usize| Ok([b"1\n".to_vec(), Vec::new()]);
+    assert!(comparison.compare_printed(file, Ok(1), 1, &wrong).is_err());
+    let failing = |_: &[u8], _: usize| Err("no such program".to_string());
+    let what = comparison.compare_printed(file, Ok(1), 1, &failing);
     assert!(what.is_err_and(|what| what.contains("no such program")));
 }
 

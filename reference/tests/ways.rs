@@ -2,14 +2,13 @@
 //! lists of small tables, and the order of the tests.
 
 use reference::algebra::Algebra::{self, Distance, Reach, Steepest};
+use reference::elimination::tables::{layout, table, Kind, Layout};
 use reference::random::Random;
 use reference::ways::counting::right_ways;
-use reference::ways::damages::{damaged_call, Damage};
 use reference::ways::judge::{judge, Fault};
-use reference::ways::refusal::{refusal, NUMBERS};
+use reference::ways::refusal::refusal;
 use reference::ways::rust_search::RustSearch;
 use reference::ways::search;
-use reference::ways::tables::{layout, Kind};
 use reference::ways::Hall;
 use reference::MAX_SIZE;
 
@@ -88,11 +87,8 @@ fn every_short_list_is_judged() {
     for round in 0..600 {
         let (algebra, kind) = (random.pick(&Algebra::ALL), random.pick(&Kind::ALL));
         let size = 1 + round % 3;
-        let hall = Hall::new(
-            algebra,
-            size,
-            layout(&mut random, algebra, size, kind).links,
-        );
+        let links = table(&mut random, algebra, size, kind);
+        let hall = Hall::new(algebra, size, links);
         let (from, to) = (random.below(size), random.below(size));
         let right = right_ways(&hall, from, to);
         let mut accepted = 0;
@@ -120,7 +116,7 @@ fn short_lists(size: usize) -> Vec<Vec<u16>> {
     lists
 }
 
-/// Both searches find one of the ways that trying all finds.
+/// The benchmark's search finds one of the ways that trying all finds.
 #[test]
 fn searches_find_right_ways() {
     let mut random = Random::new(9);
@@ -128,63 +124,38 @@ fn searches_find_right_ways() {
     for round in 0..3_000 {
         let (algebra, kind) = (random.pick(&Algebra::ALL), random.pick(&Kind::ALL));
         let size = 1 + round % 6;
-        let links = layout(&mut random, algebra, size, kind).links;
+        let links = table(&mut random, algebra, size, kind);
         let hall = Hall::new(algebra, size, links);
         let (from, to) = (random.below(size), random.below(size));
         let mut list = vec![7; size];
-        let answer = rust_search.way(&hall.question(from, to), &mut list);
-        if hall.has_way(from, to) {
-            let right = right_ways(&hall, from, to);
-            assert!(right.contains(&search::way(&hall, from, to)));
-            let length = answer.expect("there is a way");
-            assert!(right.contains(&list[..length].to_vec()));
-        } else {
-            assert_eq!(answer, Err(20));
+        match rust_search.way(&hall.question(from, to), &mut list) {
+            Ok(length) => assert!(right_ways(&hall, from, to).contains(&list[..length].to_vec())),
+            Err(number) => assert!(number == 20 && !hall.has_way(from, to)),
         }
     }
 }
 
-/// In the largest tables of every kind, where not all ways can be tried.
+/// Both searches, in the largest tables, where not all ways can be tried.
 #[test]
 fn searches_find_long_ways() {
-    let mut random = Random::new(10);
-    let mut rust_search = RustSearch::new(MAX_SIZE);
-    let mut list = vec![0; MAX_SIZE];
-    let mut longest = 0;
+    let (mut random, mut longest) = (Random::new(10), 0);
+    let (mut rust_search, mut list) = (RustSearch::new(MAX_SIZE), vec![0; MAX_SIZE]);
     for algebra in Algebra::ALL {
         for kind in Kind::ALL {
-            let drawn = layout(&mut random, algebra, MAX_SIZE, kind);
-            let hall = Hall::new(algebra, MAX_SIZE, drawn.links);
-            let (from, to) = (drawn.order[0], drawn.order[MAX_SIZE - 1]);
-            for (from, to) in [(from, to), (to, from), (from, drawn.order[1])] {
-                if hall.has_way(from, to) {
-                    let way = search::way(&hall, from, to);
-                    assert_eq!(judge(&hall, from, to, &way), Ok(()), "{kind:?}");
-                    let length = rust_search.way(&hall.question(from, to), &mut list);
-                    let found = &list[..length.expect("there is a way")];
-                    assert_eq!(judge(&hall, from, to, found), Ok(()), "{kind:?}");
-                    longest = longest.max(way.len());
-                }
+            let Layout { links, order } = layout(&mut random, algebra, MAX_SIZE, kind);
+            let hall = Hall::new(algebra, MAX_SIZE, links);
+            let (from, to) = (order[0], order[MAX_SIZE - 1]);
+            if hall.has_way(from, to) {
+                let way = search::way(&hall, from, to);
+                assert_eq!(judge(&hall, from, to, &way), Ok(()), "{kind:?}");
+                let length = rust_search.way(&hall.question(from, to), &mut list);
+                let found = &list[..length.expect("there is a way")];
+                assert_eq!(judge(&hall, from, to, found), Ok(()), "{kind:?}");
+                longest = longest.max(way.len());
             }
         }
     }
     assert_eq!(longest, MAX_SIZE);
-}
-
-#[test]
-fn the_first_damage_is_the_refusal() {
-    let mut random = Random::new(11);
-    for first in Damage::ALL {
-        assert!(NUMBERS.contains(&first.number()));
-        for second in Damage::ALL {
-            for _ in 0..60 {
-                let call = damaged_call(&mut random, &[first, second]);
-                let wanted = first.number().min(second.number());
-                let number = refusal(&call.question(), call.list_len);
-                assert_eq!(number, wanted, "{call:?}");
-            }
-        }
-    }
 }
 
 /// Borders of the tests, one step on either side.

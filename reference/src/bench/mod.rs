@@ -5,6 +5,4 @@ pub mod program_call;
 pub mod road_times;
 pub mod row_sheet;
 pub mod sheet;
-pub mod sheet_call;
-pub mod tally;
 pub mod timing;

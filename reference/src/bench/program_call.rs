@@ -52,3 +52,16 @@ fn write(mut stdin: ChildStdin, text: &[u8], pieces: usize) {
         }
     }
 }
+
+/// The first line in which two prints differ, from 1.
+pub fn first_difference(got: &[u8], wanted: &[u8]) -> Option<String> {
+    let lines = |bytes: &[u8]| -> Vec<String> {
+        let lines = bytes.split_inclusive(|&byte| byte == b'\n');
+        let shown = lines.map(|line| line.escape_ascii().to_string());
+        shown.chain(["nothing".to_string()]).collect()
+    };
+    let (got, wanted) = (lines(got), lines(wanted));
+    let mut both = got.iter().zip(&wanted).zip(1..);
+    let ((got, wanted), at) = both.find(|((got, wanted), _)| got != wanted)?;
+    Some(format!("line {at}: printed {got}, wanted {wanted}"))
+}

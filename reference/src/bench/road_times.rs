@@ -1,9 +1,11 @@
 //! The reader of road files beside two in Rust: the plain one, line by line, and one walk over the bytes.
 
 use crate::bench::timing::best_times;
+use crate::calls::Calls;
+use crate::host_call::Proved;
 use crate::random::Random;
 use crate::road::big::{all_pairs, many_arcs, mostly_comments};
-use crate::road::{host_call, one_walk, reader, Answer, Read, WORDS};
+use crate::road::{one_walk, reader, Answer, Read, WORDS};
 use std::hint::black_box;
 
 /// The files that are timed, with their names.
@@ -34,7 +36,7 @@ pub fn road_times(file: &[u8]) -> [f64; 3] {
 
 fn ours(file: &[u8], table: &mut [u16]) -> Answer {
     let mut points = 0;
-    match host_call::read(file, table, &mut points) {
+    match Proved.read(file, table, &mut points) {
         0 => Ok(points),
         number => Err(number),
     }

@@ -4,7 +4,7 @@
 use crate::bench::sheet::{refused, written};
 use crate::job_text::{read, JobList};
 use crate::systolic::part_starts;
-use crate::systolic::rows::{Lent, RowArray};
+use crate::systolic::rows::RowArray;
 use std::io::Write;
 
 pub fn row_sheet(text: &[u8]) -> Vec<u8> {
@@ -16,15 +16,9 @@ pub fn row_sheet(text: &[u8]) -> Vec<u8> {
 
 fn accepted(list: &JobList) -> Vec<u8> {
     let starts = part_starts(&list.sizes);
-    let lent = Lent {
-        algebras: &list.algebras,
-        sizes: &list.sizes,
-        starts: &starts,
-        weights: &list.weights,
-    };
-    let mut array = RowArray::start(list.order.into(), list.sizes.len());
+    let mut array = RowArray::start(list);
     let mut results = vec![0; list.weights.len()];
-    let ticks = array.run(65_535, &lent, &mut results);
+    let ticks = array.run(65_535, list, &mut results);
     let mut printed = Vec::with_capacity(64 + 29 * results.len());
     print(
         &mut printed,

@@ -17,13 +17,14 @@ use reference::bench::array_times::array_times;
 use reference::bench::road_times::{road_files, road_times};
 use reference::bench::row_sheet::row_sheet;
 use reference::bench::sheet::sheet;
-use reference::bench::sheet_call::{self, PAGE};
 use reference::bench::timing::{best_times, best_times_in};
-use reference::elimination;
-use reference::elimination::host_call::{self, bytes_of};
+use reference::calls::Calls;
+use reference::elimination::bytes_of;
+use reference::elimination::eliminate;
 use reference::elimination::rust_loop::RustLoop;
 use reference::elimination::sse2;
 use reference::elimination::tables::{table, Kind};
+use reference::host_call::{print_sheet, Proved, PAGE};
 use reference::job_text::{JobList, MAX_JOBS};
 use reference::random::Random;
 use reference::systolic::state::total;
@@ -31,7 +32,7 @@ use reference::texts::lists::{list, Sizes};
 use reference::texts::writing::{text, Freedom};
 use reference::ways::judge::judge;
 use reference::ways::rust_search::RustSearch;
-use reference::ways::{self, Hall, Question};
+use reference::ways::{Hall, Question};
 use reference::MAX_SIZE;
 use std::cell::RefCell;
 use std::hint::black_box;
@@ -138,7 +139,7 @@ fn eliminations(random: &mut Random, algebra: Algebra, size: usize) {
     for _ in 0..count {
         let words = table(random, algebra, size, Kind::SmallWords);
         weights.extend(bytes_of(&words));
-        closures.extend(bytes_of(&elimination::eliminate(algebra, size, &words)));
+        closures.extend(bytes_of(&eliminate(algebra, size, &words)));
     }
     let results = RefCell::new(vec![0; weights.len()]);
     let over_all = |eliminate: &mut dyn FnMut(&[u8], &mut [u8])| {
@@ -150,10 +151,8 @@ fn eliminations(random: &mut Random, algebra: Algebra, size: usize) {
     };
     let mut rust_loop = RustLoop::new(size);
     let mut ours = |weights: &[u8], result: &mut [u8]| {
-        assert_eq!(
-            host_call::eliminate(algebra.number(), size, weights, result),
-            0
-        );
+        let number = Proved.eliminate(algebra.number(), size, weights, result);
+        assert_eq!(number, 0);
     };
     let mut rust =
         |weights: &[u8], result: &mut [u8]| rust_loop.eliminate(algebra, size, weights, result);
@@ -187,7 +186,7 @@ fn all_ways(random: &mut Random, algebra: Algebra, size: usize) {
     let mut rust_search = RustSearch::new(size);
     let mut ours = |asked: &Question, list: &mut [u16]| {
         let mut length = 0;
-        match ways::host_call::way(asked, list, &mut length) {
+        match Proved.way(asked, list, &mut length) {
             0 => Ok(length),
             number => Err(number),
         }
@@ -247,14 +246,14 @@ fn arrays(random: &mut Random, what: &str, order: usize, size: usize, allowance:
 fn sheets(random: &mut Random, name: &str, jobs: &JobList) {
     let text = text(random, Freedom(0), jobs);
     let mut page = vec![0; PAGE];
-    let length = sheet_call::print(&text, &mut page);
+    let length = print_sheet(&text, &mut page);
     let printed = sheet(&text);
     assert!(
         page[..length] == printed && row_sheet(&text) == printed,
         "a contender's sheet is wrong"
     );
     let times = best_times([
-        Box::new(|| assert_eq!(sheet_call::print(black_box(&text), &mut page), length)),
+        Box::new(|| assert_eq!(print_sheet(black_box(&text), &mut page), length)),
         Box::new(|| assert_eq!(row_sheet(black_box(&text)).len(), length)),
         Box::new(|| assert_eq!(sheet(black_box(&text)).len(), length)),
     ]);

@@ -3,37 +3,39 @@
 //!
 //!     compare_bench PROGRAM [PERCENT]
 //!
-//! PERCENT scales the number of texts, 100 if it is not given. Ends with status 1 on any difference, and where a kind
-//! of text was not met.
+//! PERCENT scales the number of texts, 100 if it is not given. Ends with status 1 at the first difference, and where a
+//! kind of text was not met.
 
-use reference::bench::program_call::printed;
+use reference::bench::program_call::{first_difference, printed};
 use reference::bench::sheet::{accepted, refused};
-use reference::bench::tally::Tally;
-use reference::job_text::read;
+use reference::comparison::conclude;
+use reference::job_text::{read, JobList};
 use reference::random::Random;
 use reference::systolic::checks::check;
 use reference::systolic::run;
-use reference::texts::border::{border_texts, LISTING};
+use reference::tally::{Kind, Tally};
+use reference::texts::border::border_texts;
 use reference::texts::byte_damage::{damaged_bytes, senseless_text};
 use reference::texts::damage::{damaged_text, mixed_text, NUMBERS};
-use reference::texts::lists::{largest_list, longest_list, medium_list, small_list};
+use reference::texts::lists::*;
 use reference::texts::long::long_text;
-use reference::texts::writing::{text, Freedom};
+use reference::texts::writing::text_of;
 use std::env;
 use std::fs;
 use std::path::PathBuf;
-use std::process::exit;
+use std::process::ExitCode;
 
 const SEED: u64 = 0x5EED_0F0A_7AB1_E003;
 
-/// A kind of texts, and how many of it.
-type Kind = (usize, fn(&mut Random) -> Vec<u8>);
+/// How many texts of a kind, and how one is made.
+type Texts = (usize, fn(&mut Random) -> Vec<u8>);
 
-const KINDS: [Kind; 8] = [
-    (9_000, small_text),
-    (500, medium_text),
-    (300, largest_text),
-    (100, longest_text),
+const TEXTS: [Texts; 8] = [
+    (9_000, |random| text_of(random, small_list, &[0, 2, 5, 20])),
+    (500, |random| text_of(random, medium_list, &[0, 2, 5, 20])),
+    // In a text of the largest list there is little room for freedom, and in one of the longest none.
+    (300, |random| text_of(random, largest_list, &[0, 20])),
+    (100, |random| text_of(random, longest_list, &[0])),
     (600, long_text),
     (3_000, damaged_bytes),
     (3_000, mixed_text),
@@ -43,179 +45,130 @@ const KINDS: [Kind; 8] = [
 /// For each refusal that lines are damaged for.
 const DAMAGED_TEXTS: usize = 1_000;
 
+/// The refusals that a text can meet through the program.
+const REFUSALS: [u16; 9] = [5, 6, 7, 8, 13, 14, 15, 16, 17];
+
+/// Kinds of accepted lists.
+const LISTS: [Kind<JobList>; 8] = [
+    ("mixed", JobList::is_mixed),
+    ("a job below the order", has_job_below_order),
+    ("neighbours of other size in one algebra", sizes_differ),
+    ("neighbours of other size and algebra", neighbours_differ),
+    ("one hall at two sizes", has_same_hall),
+    ("one hall in two algebras", has_hall_in_two_algebras),
+    ("order 32 with 16 jobs", is_largest),
+    ("a far pair and one of none", has_far_and_none),
+];
+
+/// A sheet of more bytes than this has words of five digits nearly everywhere.
+const LONG_SHEET: usize = 439_000;
+const LONG_SHEETS: &str = "sheets over 439000 bytes";
+
 struct Comparison {
     program: PathBuf,
     random: Random,
     tally: Tally,
-    differences: usize,
 }
 
-fn main() {
-    let (program, percent) = arguments();
-    if let Err(error) = printed(&program, LISTING.as_bytes(), 1) {
-        println!("compare_bench: {}: {error}", program.display());
-        exit(1);
-    }
+fn main() -> ExitCode {
+    let Some((program, percent)) = arguments() else {
+        println!("compare_bench PROGRAM [PERCENT]");
+        return ExitCode::FAILURE;
+    };
     let mut comparison = Comparison {
         program,
         random: Random::new(SEED),
         tally: Tally::default(),
-        differences: 0,
     };
-    comparison.compare_all(percent);
-    let all_met = print_tally(&comparison.tally);
-    println!(
-        "compare_bench: {} texts, {} accepted, {} of them mixed, {} differences",
-        comparison.tally.texts(),
-        comparison.tally.accepted(),
-        comparison.tally.mixed(),
-        comparison.differences
-    );
-    if comparison.differences > 0 || !all_met {
-        exit(1);
-    }
+    let compared = comparison.compare_all(percent);
+    let tally = &comparison.tally;
+    let (accepted, mixed) = (tally.met("accepted"), tally.met("lists, mixed"));
+    let texts = accepted + tally.sum("refused with ");
+    let summary = format!("{texts} texts, {accepted} accepted, {mixed} of them mixed");
+    conclude("compare_bench", tally, compared.map(|()| summary))
 }
 
-fn arguments() -> (PathBuf, usize) {
+fn arguments() -> Option<(PathBuf, usize)> {
     let mut arguments = env::args_os().skip(1);
-    let program = arguments.next().map(PathBuf::from);
+    let program = arguments.next()?;
     let percent = match arguments.next() {
-        Some(percent) => percent.to_str().and_then(|percent| percent.parse().ok()),
-        None => Some(100),
+        Some(percent) => percent.to_str()?.parse().ok()?,
+        None => 100,
     };
-    match (program, percent, arguments.next()) {
-        (Some(program), Some(percent), None) => (program, percent),
-        _ => {
-            println!("compare_bench PROGRAM [PERCENT]");
-            exit(1)
-        }
-    }
-}
-
-/// Whether each kind of text was met.
-fn print_tally(tally: &Tally) -> bool {
-    let rows = tally.rows();
-    for (kind, met) in &rows {
-        let remark = if *met == 0 { "  not met" } else { "" };
-        println!("{kind:<40}{met:>6}{remark}");
-    }
-    rows.iter().all(|&(_, met)| met > 0)
+    let is_last = arguments.next().is_none();
+    is_last.then(|| (program.into(), percent))
 }
 
 impl Comparison {
-    fn compare_all(&mut self, percent: usize) {
-        for (text, _) in border_texts() {
-            self.compare(&text);
+    fn compare_all(&mut self, percent: usize) -> Result<(), String> {
+        self.tally.expect("accepted");
+        self.tally.expect(LONG_SHEETS);
+        self.tally.expect_each("lists, ", &LISTS);
+        for number in REFUSALS {
+            self.tally.expect(format!("refused with {number}"));
         }
-        for (count, make) in KINDS {
+        for (text, _) in border_texts() {
+            self.compare(&text)?;
+        }
+        for (count, make) in TEXTS {
             for _ in 0..count * percent / 100 {
                 let text = make(&mut self.random);
-                self.compare(&text);
+                self.compare(&text)?;
             }
         }
         for number in NUMBERS {
             for _ in 0..DAMAGED_TEXTS * percent / 100 {
                 let text = damaged_text(&mut self.random, number);
-                self.compare(&text);
+                self.compare(&text)?;
             }
         }
+        Ok(())
     }
 
     /// One text in sixteen comes to the program in pieces.
-    fn compare(&mut self, text: &[u8]) {
-        let read = read(text);
-        self.tally.count(&read);
-        let wanted = match &read {
-            Ok(list) => {
-                let outcome = run(list);
-                if let Err(what) = check(list, &outcome) {
-                    self.differ(text, &format!("the reference contradicts itself: {what}"));
-                }
-                accepted(list, &outcome)
-            }
-            Err(refusal) => refused(*refusal),
-        };
-        self.tally.count_sheet(&wanted);
+    fn compare(&mut self, text: &[u8]) -> Result<(), String> {
+        let wanted = self.wanted(text);
         let pieces = match self.random.one_in(16) {
             true => self.random.between(2, 4),
             false => 1,
         };
         match printed(&self.program, text, pieces) {
-            Ok(got) if got == wanted => {}
-            Ok(got) => self.differ(text, &first_difference(&got, &wanted)),
-            Err(error) => self.differ(text, &error.to_string()),
+            Ok(got) => match first_difference(&got, &wanted) {
+                Some(what) => Err(kept(text, &what)),
+                None => Ok(()),
+            },
+            Err(error) => Err(format!("{}: {error}", self.program.display())),
         }
     }
 
-    /// The first is printed, and its text is kept: as it is, to be tried again, and escaped, to be read.
-    fn differ(&mut self, text: &[u8], what: &str) {
-        self.differences += 1;
-        if self.differences > 1 {
-            return;
-        }
-        let name = format!("compare_bench_{}", std::process::id());
-        let kept = env::temp_dir().join(name);
-        let escaped = kept.with_extension("escaped");
-        for (path, bytes) in [
-            (&kept, text),
-            (&escaped, text.escape_ascii().to_string().as_bytes()),
-        ] {
-            if let Err(error) = fs::write(path, bytes) {
-                println!("compare_bench: {}: {error}", path.display());
+    fn wanted(&mut self, text: &[u8]) -> Vec<u8> {
+        let list = match read(text) {
+            Ok(list) => list,
+            Err(refusal) => {
+                self.tally.count(format!("refused with {}", refusal.number));
+                return refused(refusal);
             }
+        };
+        self.tally.count("accepted");
+        self.tally.look("lists, ", &LISTS, &list);
+        let outcome = run(&list);
+        let checked = check(&list, &outcome);
+        assert_eq!(checked, Ok(()), "the reference contradicts itself");
+        let sheet = accepted(&list, &outcome);
+        if sheet.len() > LONG_SHEET {
+            self.tally.count(LONG_SHEETS);
         }
-        println!(
-            "compare_bench: the first difference, on the text in {} (escaped in {})",
-            kept.display(),
-            escaped.display()
-        );
-        println!("{what}");
+        sheet
     }
 }
 
-fn small_text(random: &mut Random) -> Vec<u8> {
-    let (freedom, list) = (Freedom::any(random), small_list(random));
-    text(random, freedom, &list)
-}
-
-fn medium_text(random: &mut Random) -> Vec<u8> {
-    let (freedom, list) = (Freedom::any(random), medium_list(random));
-    text(random, freedom, &list)
-}
-
-/// With little freedom, as much more would make it too long.
-fn largest_text(random: &mut Random) -> Vec<u8> {
-    let freedom = Freedom(random.pick(&[0, 20]));
-    let list = largest_list(random);
-    text(random, freedom, &list)
-}
-
-/// With no freedom, as there is no room for it.
-fn longest_text(random: &mut Random) -> Vec<u8> {
-    let list = longest_list(random);
-    text(random, Freedom(0), &list)
-}
-
-/// The first line in which two prints differ.
-fn first_difference(got: &[u8], wanted: &[u8]) -> String {
-    let lines = |bytes: &[u8]| -> Vec<String> {
-        let lines = bytes.split_inclusive(|&byte| byte == b'\n');
-        lines.map(|line| line.escape_ascii().to_string()).collect()
-    };
-    let (got, wanted) = (lines(got), lines(wanted));
-    let line = |lines: &[String], at: usize| match lines.get(at) {
-        Some(line) => line.clone(),
-        None => "nothing".to_string(),
-    };
-    let same = got
-        .iter()
-        .zip(&wanted)
-        .take_while(|(got, wanted)| got == wanted);
-    let at = same.count();
-    format!(
-        "line {}: printed {}, wanted {}",
-        at + 1,
-        line(&got, at),
-        line(&wanted, at)
-    )
+/// Keeps the text: as it is, to be tried again, and escaped, to be read.
+fn kept(text: &[u8], what: &str) -> String {
+    let name = format!("compare_bench_{}", std::process::id());
+    let kept = env::temp_dir().join(name);
+    let escaped = kept.with_extension("escaped");
+    let written =
+        fs::write(&kept, text).and_then(|()| fs::write(&escaped, text.escape_ascii().to_string()));
+    let (kept, escaped) = (kept.display(), escaped.display());
+    format!("{what}\non the text in {kept} (escaped in {escaped}): {written:?}")
 }

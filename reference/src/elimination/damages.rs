@@ -1,7 +1,8 @@
-//! Calls that have to be refused: a right call, damaged in one or more of its five parts.
+//! What can be wrong with a call of the elimination.
 
 use crate::algebra::Algebra;
-use crate::elimination::host_call::bytes_of;
+use crate::damages::Damage;
+use crate::elimination::bytes_of;
 use crate::elimination::tables::{table, Kind};
 use crate::random::Random;
 use crate::MAX_SIZE;
@@ -14,64 +15,54 @@ pub struct Call {
     pub result_len: usize,
 }
 
-/// A call with a fault for each of `numbers`, the numbers of refusals: the lowest is the one that it is refused with.
-pub fn damaged_call(random: &mut Random, numbers: &[u32]) -> Call {
-    let mut call = right_call(random, numbers.contains(&5));
-    if numbers.contains(&5) {
-        damage_word(random, &mut call);
+impl Call {
+    /// Right in all but perhaps its words.
+    pub fn new(algebra: Algebra, size: usize, weights: &[u16]) -> Call {
+        let weights = bytes_of(weights);
+        Call {
+            algebra: algebra.number(),
+            size,
+            result_len: weights.len(),
+            weights,
+        }
     }
-    if numbers.contains(&2) {
-        damage_size(random, &mut call);
-    }
-    if numbers.contains(&3) {
-        let len = wrong_len(random, call.weights.len());
-        call.weights.resize(len, 1);
-    }
-    if numbers.contains(&4) {
-        call.result_len = wrong_len(random, call.result_len);
-    }
-    if numbers.contains(&1) {
-        call.algebra = wrong_algebra(random, call.algebra);
-    }
-    call
 }
 
+/// From the last test to the first.
+pub const DAMAGES: [Damage<Call>; 5] = [
+    ("a word above 1", 5, damage_word),
+    ("length of the result", 4, |random, call, right| {
+        call.result_len = random.not(right.result_len, &[]);
+    }),
+    ("length of the weights", 3, |random, call, right| {
+        let len = random.not(right.weights.len(), &[]);
+        call.weights.resize(len, 1);
+    }),
+    ("size", 2, damage_size),
+    ("algebra", 1, |random, call, right| {
+        call.algebra = wrong_algebra(random, right.algebra);
+    }),
+];
+
 /// Only reach has words that are refused.
-fn right_call(random: &mut Random, in_reach: bool) -> Call {
-    let algebra = if in_reach {
-        Algebra::Reach
-    } else {
-        random.pick(&Algebra::ALL)
+pub fn right_call(random: &mut Random, in_reach: bool) -> Call {
+    let algebra = match in_reach {
+        true => Algebra::Reach,
+        false => random.pick(&Algebra::ALL),
     };
     let largest = random.pick(&[4, 4, 4, 16, 16, MAX_SIZE]);
     let size = random.between(1, largest);
     let kind = random.pick(&Kind::ALL);
-    let weights = bytes_of(&table(random, algebra, size, kind));
-    Call {
-        algebra: algebra.number(),
-        size,
-        result_len: weights.len(),
-        weights,
-    }
+    Call::new(algebra, size, &table(random, algebra, size, kind))
 }
 
-/// Some are numbers of algebras again where high bits are dropped.
 pub(crate) fn wrong_algebra(random: &mut Random, right: u32) -> u32 {
-    let large = 3 + (random.next_u64() >> 33) as u32;
-    random.pick(&[
-        3,
-        4,
-        255,
-        256 + right,
-        65536 + right,
-        (1 << 31) + right,
-        u32::MAX,
-        large,
-    ])
+    let large = random.large(right as usize) as u32;
+    random.pick(&[3, 4, 255, large.max(3)])
 }
 
 /// The lengths stay as they are, or fit the new size, or fit what 64 bits make of its square.
-fn damage_size(random: &mut Random, call: &mut Call) {
+fn damage_size(random: &mut Random, call: &mut Call, _: &Call) {
     call.size = wrong_size(random, call.size);
     let wrapped = call.size.wrapping_mul(call.size).wrapping_mul(2);
     if wrapped <= 100_000 && random.one_in(2) {
@@ -80,45 +71,12 @@ fn damage_size(random: &mut Random, call: &mut Call) {
     }
 }
 
-/// Some are right sizes where high bits are dropped.
 pub(crate) fn wrong_size(random: &mut Random, right: usize) -> usize {
-    let large = MAX_SIZE + 1 + (random.next_u64() >> 8) as usize;
-    random.pick(&[
-        0,
-        MAX_SIZE + 1,
-        MAX_SIZE + right,
-        256 + right,
-        65536 + right,
-        1 << 32,
-        (1 << 32) + right,
-        1 << 63,
-        (1 << 63) + right,
-        usize::MAX,
-        usize::MAX - right,
-        large,
-    ])
+    let large = random.large(right);
+    random.pick(&[0, MAX_SIZE + 1, MAX_SIZE + right, large, large])
 }
 
-/// Odd ones too, and the number of words in the place of the number of bytes.
-fn wrong_len(random: &mut Random, right: usize) -> usize {
-    let choices = [
-        0,
-        1,
-        right / 2,
-        right.saturating_sub(2),
-        right.saturating_sub(1),
-        right + 1,
-        right + 2,
-        right * 2,
-        random.below(2 * right + 8),
-    ];
-    match random.pick(&choices) {
-        len if len == right => right + 1,
-        len => len,
-    }
-}
-
-fn damage_word(random: &mut Random, call: &mut Call) {
+fn damage_word(random: &mut Random, call: &mut Call, _: &Call) {
     let (place, word) = wrong_word(random, call.size);
     call.weights[2 * place..2 * place + 2].copy_from_slice(&word.to_le_bytes());
 }

@@ -4,6 +4,8 @@ use crate::algebra::Algebra;
 
 /// K4: "65534 or more".
 const FAR: u64 = 65534;
+/// In tables of more points the lengths take long to find.
+pub const LARGEST_MEASURED: usize = 12;
 
 /// For each pair of points the length of its shortest way, nothing where no way joins them. Every link is tried behind
 /// every way found, until no way gets shorter.

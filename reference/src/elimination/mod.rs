@@ -1,7 +1,7 @@
 //! The elimination, as "Ways and elimination" in document 01 states it. It is not meant to be fast.
 
+pub mod comparison;
 pub mod damages;
-pub mod host_call;
 pub mod lengths;
 pub mod refusal;
 pub mod rust_loop;
@@ -12,11 +12,8 @@ use crate::algebra::Algebra;
 
 /// The closure of a table of `size` times `size` words, row by row.
 pub fn eliminate(algebra: Algebra, size: usize, weights: &[u16]) -> Vec<u16> {
-    let mut table = with_own_diagonal(algebra, size, weights);
-    for k in 0..size {
-        table = step(algebra, size, &table, k);
-    }
-    table
+    let table = with_own_diagonal(algebra, size, weights);
+    (0..size).fold(table, |table, k| step(algebra, size, &table, k))
 }
 
 /// The tables that the elimination goes through: with the diagonal set, and after each step. The last is the closure.
@@ -48,4 +45,16 @@ fn step(algebra: Algebra, size: usize, before: &[u16], k: usize) -> Vec<u16> {
         }
     }
     after
+}
+
+/// Two bytes a word, low byte first.
+pub fn bytes_of(words: &[u16]) -> Vec<u8> {
+    words.iter().flat_map(|word| word.to_le_bytes()).collect()
+}
+
+pub fn words_of(bytes: &[u8]) -> Vec<u16> {
+    let pairs = bytes.chunks_exact(2);
+    pairs
+        .map(|pair| u16::from_le_bytes([pair[0], pair[1]]))
+        .collect()
 }

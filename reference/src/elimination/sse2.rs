@@ -9,77 +9,6 @@ use std::arch::x86_64::*;
 /// Words in a register.
 const LANES: usize = 8;
 
-/// An algebra's sum on registers, and its product of one word, which is made ready once for a row, with a register; the
-/// algebra itself serves the words of a row's rest.
-trait Lanes {
-    const ALGEBRA: Algebra;
-    type Ready: Copy;
-    fn ready(x: u16) -> Self::Ready;
-    fn sum(a: __m128i, b: __m128i) -> __m128i;
-    fn product(x: Self::Ready, b: __m128i) -> __m128i;
-}
-
-struct Reach;
-struct Distance;
-struct Steepest;
-
-impl Lanes for Reach {
-    const ALGEBRA: Algebra = Algebra::Reach;
-    type Ready = __m128i;
-    #[inline(always)]
-    fn ready(x: u16) -> __m128i {
-        everywhere(x)
-    }
-    #[inline(always)]
-    fn sum(a: __m128i, b: __m128i) -> __m128i {
-        larger(a, b)
-    }
-    #[inline(always)]
-    fn product(x: __m128i, b: __m128i) -> __m128i {
-        smaller(x, b)
-    }
-}
-
-impl Lanes for Distance {
-    const ALGEBRA: Algebra = Algebra::Distance;
-    /// One more than x and 1; none, which stays none, and 0.
-    type Ready = (__m128i, __m128i);
-    #[inline(always)]
-    fn ready(x: u16) -> Self::Ready {
-        let step = u16::from(x != Algebra::Distance.none());
-        (everywhere(x + step), everywhere(step))
-    }
-    #[inline(always)]
-    fn sum(a: __m128i, b: __m128i) -> __m128i {
-        smaller(a, b)
-    }
-    #[inline(always)]
-    fn product((more, step): Self::Ready, b: __m128i) -> __m128i {
-        // The addition of one more than x is held at 65535, so that without the one it is held at 65534. The held sum
-        // is not below b, unless b is none.
-        // SAFETY: every x86-64 processor has SSE2.
-        let held = unsafe { _mm_sub_epi16(_mm_adds_epu16(more, b), step) };
-        larger(held, b)
-    }
-}
-
-impl Lanes for Steepest {
-    const ALGEBRA: Algebra = Algebra::Steepest;
-    type Ready = __m128i;
-    #[inline(always)]
-    fn ready(x: u16) -> __m128i {
-        everywhere(x)
-    }
-    #[inline(always)]
-    fn sum(a: __m128i, b: __m128i) -> __m128i {
-        smaller(a, b)
-    }
-    #[inline(always)]
-    fn product(x: __m128i, b: __m128i) -> __m128i {
-        larger(x, b)
-    }
-}
-
 #[inline(always)]
 fn everywhere(x: u16) -> __m128i {
     // SAFETY: every x86-64 processor has SSE2.
@@ -106,29 +35,62 @@ pub fn eliminate(algebra: Algebra, size: usize, weights: &[u8], result: &mut [u8
     for i in 0..size {
         put(result, i * size + i, algebra.own());
     }
+    // Each arm is compiled for its own sum, and product of one word, which is made ready once for a row, with a register.
     match algebra {
-        Algebra::Reach => close::<Reach>(size, result),
-        Algebra::Distance => close::<Distance>(size, result),
-        Algebra::Steepest => close::<Steepest>(size, result),
+        Algebra::Reach => close(algebra, size, result, larger, everywhere, smaller),
+        Algebra::Distance => close(algebra, size, result, smaller, one_more, held),
+        Algebra::Steepest => close(algebra, size, result, smaller, everywhere, larger),
     }
 }
 
-fn close<L: Lanes>(size: usize, table: &mut [u8]) {
+/// One more than x and 1; none, which stays none, and 0.
+#[inline(always)]
+fn one_more(x: u16) -> (__m128i, __m128i) {
+    let step = u16::from(x != Algebra::Distance.none());
+    (everywhere(x + step), everywhere(step))
+}
+
+/// The addition of one more than x is held at 65535, so that without the one it is held at 65534. The held sum is not
+/// below b, unless b is none.
+#[inline(always)]
+fn held((more, step): (__m128i, __m128i), b: __m128i) -> __m128i {
+    // SAFETY: every x86-64 processor has SSE2.
+    let held = unsafe { _mm_sub_epi16(_mm_adds_epu16(more, b), step) };
+    larger(held, b)
+}
+
+#[inline(always)]
+fn close<Ready: Copy>(
+    algebra: Algebra,
+    size: usize,
+    table: &mut [u8],
+    sum: impl Fn(__m128i, __m128i) -> __m128i,
+    ready: impl Fn(u16) -> Ready,
+    product: impl Fn(Ready, __m128i) -> __m128i,
+) {
     let mut row_k = [0; 2 * MAX_SIZE];
     let via = &mut row_k[..2 * size];
     for k in 0..size {
         via.copy_from_slice(&table[2 * k * size..2 * (k + 1) * size]);
         for row in table.chunks_exact_mut(2 * size) {
             let x = get(row, k);
-            improve::<L>(row, x, via);
+            let joined = ready(x);
+            improve(algebra, row, x, via, |old, link| {
+                sum(old, product(joined, link))
+            });
         }
     }
 }
 
-/// Each entry of the row becomes the sum of itself and the product of `x` and its entry of `via`.
+/// Each entry of the row becomes the sum of itself and the product of `x` and its entry of `via`, eight at once by `better`.
 #[inline(always)]
-fn improve<L: Lanes>(row: &mut [u8], x: u16, via: &[u8]) {
-    let ready = L::ready(x);
+fn improve(
+    algebra: Algebra,
+    row: &mut [u8],
+    x: u16,
+    via: &[u8],
+    better: impl Fn(__m128i, __m128i) -> __m128i,
+) {
     let mut entries = row.chunks_exact_mut(2 * LANES);
     let mut links = via.chunks_exact(2 * LANES);
     for (entry, link) in entries.by_ref().zip(links.by_ref()) {
@@ -137,14 +99,13 @@ fn improve<L: Lanes>(row: &mut [u8], x: u16, via: &[u8]) {
         unsafe {
             let old = _mm_loadu_si128(entry.as_ptr().cast());
             let link = _mm_loadu_si128(link.as_ptr().cast());
-            let new = L::sum(old, L::product(ready, link));
-            _mm_storeu_si128(entry.as_mut_ptr().cast(), new);
+            _mm_storeu_si128(entry.as_mut_ptr().cast(), better(old, link));
         }
     }
     let (rest, link) = (entries.into_remainder(), links.remainder());
     for j in 0..rest.len() / 2 {
-        let through_k = L::ALGEBRA.product(x, get(link, j));
-        put(rest, j, L::ALGEBRA.sum(get(rest, j), through_k));
+        let through_k = algebra.product(x, get(link, j));
+        put(rest, j, algebra.sum(get(rest, j), through_k));
     }
 }
 

@@ -31,6 +31,16 @@ pub struct Job<'a> {
     pub weights: &'a [u16],
 }
 
+impl<'a> Job<'a> {
+    pub fn new(algebra: Algebra, size: usize, weights: &'a [u16]) -> Job<'a> {
+        Job {
+            algebra,
+            size,
+            weights,
+        }
+    }
+}
+
 impl JobList {
     /// Of no jobs.
     pub fn new(order: u16) -> JobList {
@@ -72,11 +82,7 @@ pub fn jobs<'a>(
         let size = usize::from(size);
         let (part, later) = weights.split_at(size * size);
         weights = later;
-        Job {
-            algebra,
-            size,
-            weights: part,
-        }
+        Job::new(algebra, size, part)
     });
     parts.collect()
 }

@@ -16,24 +16,8 @@ pub struct Draft {
 
 /// Some of these are other numbers where high bits are dropped.
 const LENGTHS: [u64; 18] = [
-    0,
-    1,
-    2,
-    9,
-    10,
-    255,
-    256,
-    65533,
-    65534,
-    65535,
-    65536,
-    65537,
-    131_071,
-    (1 << 32) - 1,
-    1 << 32,
-    (1 << 32) + 7,
-    (1 << 33) + 65536,
-    9_999_999_999,
+    0, 1, 2, 9, 10, 255, 256, 65533, 65534, 65535, 65536, 65537, 131071, 4294967295, 4294967296,
+    4294967303, 8590000128, 9999999999,
 ];
 
 /// Comments that a reader could take for another line, or stumble over.
@@ -61,13 +45,10 @@ impl Draft {
         Draft::of(random, points, &arcs)
     }
 
-    /// With at least one arc, and so a line of each kind.
-    pub fn with_arcs(random: &mut Random) -> Draft {
-        loop {
-            let draft = Draft::any(random);
-            if !draft.arc_places().is_empty() {
-                return draft;
-            }
+    /// Another one if it has no arc, and so no line of each kind.
+    pub fn need_arcs(&mut self, random: &mut Random) {
+        while self.arc_places().is_empty() {
+            *self = Draft::any(random);
         }
     }
 
@@ -99,6 +80,11 @@ impl Draft {
             text.push(b'\n');
         }
         text
+    }
+
+    /// These bytes in the place of its lines.
+    pub fn set_text(&mut self, text: Vec<u8>) {
+        (self.lines, self.has_last_lf) = (vec![text], false);
     }
 
     pub fn arc_places(&self) -> Vec<usize> {

@@ -23,27 +23,21 @@ const LINE_DAMAGES: [Damage; 12] = [
 ];
 
 /// One line of the file is changed.
-pub fn line_damaged(random: &mut Random) -> Vec<u8> {
-    let mut draft = Draft::any(random);
-    let damage = random.pick(&LINE_DAMAGES);
-    let at = any_line(random, &draft);
-    draft.lines[at] = damage(random, &draft.lines[at]);
-    draft.text()
+pub fn line_damaged(random: &mut Random, draft: &mut Draft) {
+    let at = any_line(random, draft);
+    draft.lines[at] = damaged_line(random, &draft.lines[at]);
 }
 
-pub fn sp_misspelt(random: &mut Random) -> Vec<u8> {
-    let mut draft = Draft::any(random);
+pub fn sp_misspelt(random: &mut Random, draft: &mut Draft) {
     let word = random.pick(&["SP", "Sp", "s", "p", "spp", "sp1", "max", "1", "s p", "ps"]);
     let line = &mut draft.lines[draft.problem];
     let at = line.iter().position(|&byte| byte == b's');
     let at = at.expect("a p line has its sp");
     line.splice(at..at + 2, word.bytes());
-    draft.text()
 }
 
 /// One more line anywhere: blank, of spaces, or of a few bytes.
-pub fn stray_line(random: &mut Random) -> Vec<u8> {
-    let mut draft = Draft::any(random);
+pub fn stray_line(random: &mut Random, draft: &mut Draft) {
     let at = draft.any_place_from(random, 0);
     let line = match random.below(4) {
         0 | 1 => Vec::new(),
@@ -56,7 +50,6 @@ pub fn stray_line(random: &mut Random) -> Vec<u8> {
         }
     };
     draft.insert(at, line);
-    draft.text()
 }
 
 /// The `p` line or an `a` line.

@@ -1,47 +1,53 @@
-//! All that a call is lent, with what lies beside it. A call that writes elsewhere is seen by what it left here.
+//! All that a call is lent, with what lies beside it, and whether it left what the reader leaves.
 
+use crate::lending::{any_part, word_difference, Lent};
 use crate::random::Random;
-use std::ops::Range;
+use crate::road::{reader, Answer};
 
 #[derive(Clone)]
 pub struct Memory {
-    pub bytes: Vec<u8>,
-    pub file: Range<usize>,
-    pub words: Vec<u16>,
-    pub table: Range<usize>,
-    /// The one in the middle is lent.
-    pub points: [usize; 3],
+    pub file: Lent<u8, 1>,
+    pub table: Lent<u16, 1>,
+    pub points: Lent<usize, 1>,
 }
 
 impl Memory {
-    /// Whatever is not the file is random. File and table begin at odd or even places.
+    /// Whatever is not the file is random.
     pub fn new(random: &mut Random, file: &[u8], table_len: usize) -> Memory {
-        let start = random.between(8, 23);
-        let bytes = [&random.bytes(start), file, &random.bytes(16)].concat();
-        let first = random.between(8, 15);
+        let (table, points) = (any_part(random, table_len), any_part(random, 1));
         Memory {
-            bytes,
-            file: start..start + file.len(),
-            words: (0..first + table_len + 8).map(|_| random.word()).collect(),
-            table: first..first + table_len,
-            points: [(); 3].map(|_| random.next_u64() as usize),
+            file: Lent::new(random, [file]),
+            table: Lent::new(random, [&table]),
+            points: Lent::new(random, [&points]),
         }
-    }
-
-    pub fn file(&self) -> &[u8] {
-        &self.bytes[self.file.clone()]
-    }
-
-    pub fn table(&self) -> &[u16] {
-        &self.words[self.table.clone()]
     }
 
     /// File, table and points, and nothing beside them.
     pub fn lent(&mut self) -> (&[u8], &mut [u16], &mut usize) {
-        (
-            &self.bytes[self.file.clone()],
-            &mut self.words[self.table.clone()],
-            &mut self.points[1],
-        )
+        let ([file], [table]) = (self.file.parts(), self.table.parts());
+        (file, table, &mut self.points.parts()[0][0])
+    }
+
+    /// The answer, where all is right after a call that returned `number`; else what is wrong.
+    pub fn judge(&self, number: u32) -> Result<Answer, String> {
+        let ([file], [table]) = (self.file.before(), self.table.before());
+        let mut wanted_table = vec![0; table.len()];
+        let wanted = reader::read(file, &mut wanted_table);
+        let (wanted_number, wanted_points) = match wanted {
+            Ok(points) => (0, points),
+            Err(number) => (number, self.points.before()[0][0]),
+        };
+        self.file.stayed()?;
+        let ([table], [points]) = (self.table.taken_back(0)?, self.points.taken_back(0)?);
+        let points = points[0];
+        if number != wanted_number {
+            return Err(format!("returned {number}, wanted {wanted_number}"));
+        }
+        if points != wanted_points {
+            return Err(format!("points are {points}, wanted {wanted_points}"));
+        }
+        let told = word_difference("table", table, &wanted_table);
+        told.map_err(|what| format!("returned {number}, {what}"))?;
+        Ok(wanted)
     }
 }

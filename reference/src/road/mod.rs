@@ -3,16 +3,9 @@
 
 pub mod big;
 pub mod border;
-pub mod calls;
 pub mod comparison;
 pub mod draft;
-pub mod facts;
-pub mod facts_accepted;
-pub mod facts_form;
-pub mod facts_range;
 pub mod form_damages;
-pub mod host_call;
-pub mod judge;
 pub mod kinds;
 pub mod memory;
 pub mod mixed_damages;
@@ -21,9 +14,7 @@ pub mod order_damages;
 pub mod printed;
 pub mod range_damages;
 pub mod reader;
-pub mod sight;
 pub mod style;
-pub mod tally;
 
 use crate::MAX_SIZE;
 
@@ -33,6 +24,9 @@ pub const WORDS: usize = MAX_SIZE * MAX_SIZE;
 pub const NONE: u16 = 65535;
 /// The longest length; what is longer is read as this.
 pub const FAR: u16 = 65534;
+
+/// The longest file that the program takes.
+pub const LONGEST: usize = 1_048_576;
 
 /// A wrong buffer, or a line of no known form.
 pub const FORM: u32 = 21;

@@ -52,7 +52,7 @@ fn begin(cursor: &mut Cursor) -> Result<(usize, u64), u32> {
     cursor.expect(b'p')?;
     let points = cursor.numeral()?;
     let arcs = cursor.numeral()?;
-    cursor.end_line()?;
+    cursor.expect(b'\n')?;
     match (1..=MAX_SIZE as u64).contains(&points) {
         true => Ok((points as usize, arcs)),
         false => Err(RANGE),
@@ -65,7 +65,7 @@ fn arc(cursor: &mut Cursor, points: usize, table: &mut [u16]) -> Result<(), u32>
     let from = cursor.numeral()?.wrapping_sub(1);
     let to = cursor.numeral()?.wrapping_sub(1);
     let length = cursor.numeral()?.min(FAR.into()) as u16;
-    cursor.end_line()?;
+    cursor.expect(b'\n')?;
     // Point 0 has become the largest number.
     if from.max(to) >= points as u64 {
         return Err(RANGE);
@@ -88,6 +88,7 @@ impl Cursor<'_> {
         self.file.get(self.at).copied().unwrap_or(b'\n')
     }
 
+    #[inline]
     fn expect(&mut self, byte: u8) -> Result<(), u32> {
         match self.byte() == byte {
             true => {
@@ -101,10 +102,7 @@ impl Cursor<'_> {
     /// One or more.
     #[inline]
     fn spaces(&mut self) -> Result<(), u32> {
-        if self.byte() != b' ' {
-            return Err(FORM);
-        }
-        self.at += 1;
+        self.expect(b' ')?;
         while self.byte() == b' ' {
             self.at += 1;
         }
@@ -128,17 +126,6 @@ impl Cursor<'_> {
         }
         match self.at - start {
             1..=10 => Ok(value),
-            _ => Err(FORM),
-        }
-    }
-
-    #[inline]
-    fn end_line(&mut self) -> Result<(), u32> {
-        match self.byte() {
-            b'\n' => {
-                self.at += 1;
-                Ok(())
-            }
             _ => Err(FORM),
         }
     }

@@ -1,9 +1,9 @@
 //! What the program prints for a file: its closed table, or the number of its refusal.
 
 use crate::algebra::Algebra;
+use crate::bench::program_call::first_difference;
 use crate::elimination::eliminate;
-use crate::road::tally::LONGEST;
-use crate::road::{reader, NONE, WORDS};
+use crate::road::{reader, LONGEST, NONE, WORDS};
 
 /// For a file that is not too long.
 pub fn printed(file: &[u8]) -> Vec<u8> {
@@ -37,16 +37,8 @@ pub fn judge_printed(file: &[u8], output: &[u8], error: &[u8]) -> Result<(), Str
             _ => Err("a file too long was printed".to_string()),
         };
     }
-    let wanted = printed(file);
-    if output == wanted {
-        return Ok(());
+    match first_difference(output, &printed(file)) {
+        Some(what) => Err(what),
+        None => Ok(()),
     }
-    let same = output
-        .iter()
-        .zip(&wanted)
-        .take_while(|(got, wanted)| got == wanted);
-    let (at, got, wanted) = (same.count(), output.len(), wanted.len());
-    Err(format!(
-        "printed {got} bytes, wanted {wanted}, the same up to byte {at}"
-    ))
 }

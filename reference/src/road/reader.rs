@@ -25,14 +25,14 @@ fn read_lines(file: &[u8], table: &mut [u16]) -> Answer {
 }
 
 /// Each line without its LF. After the last LF there is no further line.
-pub fn lines(file: &[u8]) -> impl Iterator<Item = &[u8]> {
+fn lines(file: &[u8]) -> impl Iterator<Item = &[u8]> {
     let lines = file.split_inclusive(|&byte| byte == b'\n');
     lines.map(|line| line.strip_suffix(b"\n").unwrap_or(line))
 }
 
 /// What the lines have said up to now.
 #[derive(Default)]
-pub struct Reading {
+struct Reading {
     problem: Option<Problem>,
     /// Those from a point to itself count too.
     arcs_read: u64,
@@ -46,7 +46,7 @@ struct Problem {
 
 impl Reading {
     /// The table is written from the `p` line on.
-    pub fn take(&mut self, line: &[u8], table: &mut [u16]) -> Result<(), u32> {
+    fn take(&mut self, line: &[u8], table: &mut [u16]) -> Result<(), u32> {
         match Line::parse(line).ok_or(FORM)? {
             Line::Comment => Ok(()),
             Line::Problem { points, arcs } => self.begin(points, arcs, table),
@@ -84,7 +84,7 @@ impl Reading {
         Ok(())
     }
 
-    pub fn end(&self) -> Answer {
+    fn end(&self) -> Answer {
         let Problem { points, arcs } = self.problem.ok_or(FORM)?;
         match self.arcs_read == arcs {
             true => Ok(points),

@@ -3,7 +3,7 @@
 use crate::systolic::cell_rule::Array;
 use crate::systolic::refusal::{run_refusal, start_refusal};
 use crate::systolic::state::Header;
-use crate::systolic::Jobs;
+use crate::systolic::{Jobs, LentRun};
 
 /// Returns 0, or the number of the refusal.
 pub fn start(order: usize, jobs: Jobs, state: &mut [u16]) -> u32 {
@@ -15,30 +15,24 @@ pub fn start(order: usize, jobs: Jobs, state: &mut [u16]) -> u32 {
     number
 }
 
-/// Returns 0 and writes the ticks made to `made`, or returns the number of the refusal.
-pub fn run(
-    state: &mut [u16],
-    jobs: Jobs,
-    allowance: u16,
-    scratch: &mut [u16],
-    results: &mut [u16],
-    made: &mut u16,
-) -> u32 {
-    let number = run_refusal(state, jobs, scratch.len(), results.len());
+/// The same of a run.
+pub fn run(lent: &mut LentRun) -> u32 {
+    let (scratch, results) = (&mut *lent.scratch, &mut *lent.results);
+    let number = run_refusal(lent.state, lent.jobs, scratch.len(), results.len());
     if number != 0 {
         return number;
     }
-    let header = Header::read(state).expect("the state is tested");
-    let ticks = header.ticks_left().min(allowance.into());
+    let header = Header::read(lent.state).expect("the state is tested");
+    let ticks = header.ticks_left().min(lent.allowance.into());
     let end = header.tick + ticks;
-    let mut array = Array::new(header.order, &jobs.tested(), &state[4..]);
+    let mut array = Array::new(header.order, &lent.jobs.tested(), &lent.state[4..]);
     for tick in header.tick..end {
         array.tick(tick, results);
     }
-    state[3] = end as u16;
-    state[4..].copy_from_slice(&array.planes());
+    lent.state[3] = end as u16;
+    lent.state[4..].copy_from_slice(&array.planes());
     // The rule needs none of it, but it is left zero, also where no tick is made.
     scratch.fill(0);
-    *made = ticks as u16;
+    *lent.made = ticks as u16;
     0
 }

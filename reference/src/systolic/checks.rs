@@ -2,7 +2,7 @@
 //! and which word it is.
 
 use crate::elimination::eliminate;
-use crate::job_text::JobList;
+use crate::job_text::{Job, JobList};
 use crate::systolic::state::total;
 use crate::systolic::{Leaving, Outcome};
 
@@ -27,20 +27,20 @@ pub fn check(list: &JobList, outcome: &Outcome) -> Result<(), String> {
 /// Every entry of every job once, job by job and row by row.
 fn wanted_leavings(list: &JobList) -> Vec<Leaving> {
     let n = usize::from(list.order);
-    let mut leavings = Vec::new();
-    for (job, &size) in list.sizes.iter().enumerate() {
-        for row in 0..usize::from(size) {
-            for column in 0..usize::from(size) {
-                leavings.push(Leaving {
-                    job,
-                    row,
-                    column,
-                    tick: 4 * n * job + 4 * n - 1 + row + column,
-                });
+    let jobs = list.jobs().into_iter().enumerate();
+    let leavings = jobs.flat_map(|(job, Job { size, .. })| {
+        (0..size * size).map(move |at| {
+            let (row, column) = (at / size, at % size);
+            let tick = 4 * n * job + 4 * n - 1 + row + column;
+            Leaving {
+                job,
+                row,
+                column,
+                tick,
             }
-        }
-    }
-    leavings
+        })
+    });
+    leavings.collect()
 }
 
 /// Each job eliminated by itself in its own algebra, and not padded.

@@ -3,17 +3,16 @@
 pub mod calls;
 pub mod cell_rule;
 pub mod checks;
-pub mod damage_sets;
-pub mod host_call;
-pub mod lending;
+pub mod comparison;
+pub mod kinds;
 pub mod memory;
 pub mod moments;
+pub mod pairs;
 pub mod refusal;
 pub mod rows;
 pub mod run_damages;
 pub mod start_damages;
 pub mod state;
-pub mod tally;
 pub mod wrong_parts;
 
 use crate::job_text::JobList;
@@ -26,6 +25,27 @@ pub struct Jobs<'a> {
     pub algebras: &'a [u16],
     pub sizes: &'a [u16],
     pub weights: &'a [u16],
+}
+
+impl<'a> Jobs<'a> {
+    pub fn of(algebras: &'a [u16], sizes: &'a [u16], weights: &'a [u16]) -> Jobs<'a> {
+        Jobs {
+            algebras,
+            sizes,
+            weights,
+        }
+    }
+}
+
+/// What a run is lent.
+pub struct LentRun<'a> {
+    pub state: &'a mut [u16],
+    pub jobs: Jobs<'a>,
+    pub allowance: u16,
+    pub scratch: &'a mut [u16],
+    pub results: &'a mut [u16],
+    /// The ticks made are written here.
+    pub made: &'a mut u16,
 }
 
 /// What a run to the end makes.

@@ -115,6 +115,14 @@ pub enum Pace {
     Pieces,
 }
 
+/// Large arrays are seldom run a tick at a time, as it takes long.
+pub fn any_pace(random: &mut Random, order: usize) -> Pace {
+    match order {
+        0..=8 => random.pick(&[Pace::Whole, Pace::Single, Pace::Pieces, Pace::Pieces]),
+        _ => random.pick(&[Pace::Whole, Pace::Pieces]),
+    }
+}
+
 pub fn allowance(random: &mut Random, pace: Pace, call: &RunCall) -> u16 {
     let (n, left) = (call.header().order, call.header().ticks_left());
     let few = random.below(12);
@@ -123,23 +131,10 @@ pub fn allowance(random: &mut Random, pace: Pace, call: &RunCall) -> u16 {
     let ticks = match pace {
         Pace::Whole => past,
         Pace::Single => 1,
-        Pace::Pieces => random.pick(&[
-            0,
-            1,
-            1,
-            2,
-            few,
-            few,
-            few,
-            n,
-            n,
-            2 * n,
-            4 * n - 1,
-            4 * n,
-            some,
-            some,
-            past,
-        ]),
+        Pace::Pieces => {
+            let passes = random.pick(&[n, n, 2 * n, 4 * n - 1, 4 * n]);
+            random.pick(&[0, 1, 1, few, few, few, passes, passes, some, some, past])
+        }
     };
     ticks as u16
 }

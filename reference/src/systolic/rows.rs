@@ -3,25 +3,21 @@
 
 use crate::algebra::Algebra;
 use crate::elimination::rust_loop::joined;
+use crate::job_text::JobList;
+use crate::systolic::part_starts;
 use std::ops::Range;
 
 pub struct RowArray {
     n: usize,
     jobs: usize,
+    /// Where each job begins in the weights and the results.
+    starts: Vec<usize>,
     tick: usize,
     c: Vec<u16>,
     /// A row has a word before its cells: what comes in at the left edge.
     a: Vec<u16>,
     /// There is a row before those of the cells: what comes in at the top edge.
     b: Vec<u16>,
-}
-
-/// The jobs lent to a run, with the place in the weights and the results where each begins.
-pub struct Lent<'a> {
-    pub algebras: &'a [Algebra],
-    pub sizes: &'a [u16],
-    pub starts: &'a [usize],
-    pub weights: &'a [u16],
 }
 
 /// A cell's s, divided by N: the quotient counts the passes of all jobs, the remainder is k.
@@ -57,10 +53,12 @@ impl Step {
 
 impl RowArray {
     /// The arguments are not tested, here nor in `run`.
-    pub fn start(order: usize, jobs: usize) -> RowArray {
+    pub fn start(list: &JobList) -> RowArray {
+        let order = usize::from(list.order);
         RowArray {
             n: order,
-            jobs,
+            jobs: list.sizes.len(),
+            starts: part_starts(&list.sizes),
             tick: 0,
             c: vec![0; order * order],
             a: vec![0; order * (order + 1)],
@@ -77,7 +75,7 @@ impl RowArray {
     }
 
     /// Returns the ticks made.
-    pub fn run(&mut self, allowance: usize, lent: &Lent, results: &mut [u16]) -> usize {
+    pub fn run(&mut self, allowance: usize, list: &JobList, results: &mut [u16]) -> usize {
         let total = 4 * self.n * self.jobs + 2 * self.n - 2;
         let ticks = allowance.min(total - self.tick);
         for _ in 0..ticks {
@@ -85,15 +83,15 @@ impl RowArray {
                 passes: self.tick / self.n,
                 k: self.tick % self.n,
             };
-            self.feed_top(lent, top);
+            self.feed_top(list, top);
             for i in (0..self.n.min(self.tick + 1)).rev() {
                 let columns = self.working(i);
                 if !columns.is_empty() {
                     let step = top.before(self.n, i);
-                    self.feed_left(lent, i, step);
-                    self.sum_row(lent, i, step, columns.clone());
+                    self.feed_left(list, i, step);
+                    self.sum_row(list, i, step, columns.clone());
                     self.shift_row(i, step, columns.clone());
-                    self.send_out(lent, i, step, columns, results);
+                    self.send_out(list, i, step, columns, results);
                 }
             }
             self.tick += 1;
@@ -109,42 +107,42 @@ impl RowArray {
     }
 
     /// Into the row above the cells; the bottom row still holds the words of before the tick.
-    fn feed_top(&mut self, lent: &Lent, top: Step) {
+    fn feed_top(&mut self, list: &JobList, top: Step) {
         let n = self.n;
         for j in self.working(0) {
             let step = top.before(n, j);
             self.b[j] = match step.pass() {
-                0 => self.fed(lent, step.job(), step.k, j),
+                0 => self.fed(list, step.job(), step.k, j),
                 _ => self.b[n * n + j],
             };
         }
     }
 
     /// Into the word before row i. From 4NQ on the first cell takes nothing in.
-    fn feed_left(&mut self, lent: &Lent, i: usize, step: Step) {
+    fn feed_left(&mut self, list: &JobList, i: usize, step: Step) {
         let (n, row) = (self.n, i * (self.n + 1));
         self.a[row] = match step.pass() {
-            0 if step.job() < self.jobs => self.fed(lent, step.job(), i, step.k),
+            0 if step.job() < self.jobs => self.fed(list, step.job(), i, step.k),
             _ => self.a[row + n],
         };
     }
 
-    fn fed(&self, lent: &Lent, job: usize, i: usize, j: usize) -> u16 {
-        let (algebra, size) = (lent.algebras[job], usize::from(lent.sizes[job]));
+    fn fed(&self, list: &JobList, job: usize, i: usize, j: usize) -> u16 {
+        let (algebra, size) = (list.algebras[job], usize::from(list.sizes[job]));
         if i == j {
             algebra.own()
         } else if i < size && j < size {
-            lent.weights[lent.starts[job] + i * size + j]
+            list.weights[self.starts[job] + i * size + j]
         } else {
             algebra.none()
         }
     }
 
     /// c of the cells of row i, whose first cell is at `step`; the rows below have gone before.
-    fn sum_row(&mut self, lent: &Lent, i: usize, step: Step, columns: Range<usize>) {
+    fn sum_row(&mut self, list: &JobList, i: usize, step: Step, columns: Range<usize>) {
         // Past the last job no cell sums. Else those that do are all on this job: a cell behind on the job before is in
         // its last pass.
-        let Some(&algebra) = lent.algebras.get(step.job()) else {
+        let Some(&algebra) = list.algebras.get(step.job()) else {
             return;
         };
         // s falls along the row: in column k a pass begins, and the cells after it are one pass behind.
@@ -213,7 +211,7 @@ impl RowArray {
     /// The last cell's new a, if it leaves and lies inside the job's size.
     fn send_out(
         &self,
-        lent: &Lent,
+        list: &JobList,
         i: usize,
         step: Step,
         columns: Range<usize>,
@@ -225,9 +223,9 @@ impl RowArray {
         }
         let last = step.before(n, n - 1);
         if last.pass() == 3 {
-            let (size, k) = (usize::from(lent.sizes[last.job()]), last.k);
+            let (size, k) = (usize::from(list.sizes[last.job()]), last.k);
             if i < size && k < size {
-                results[lent.starts[last.job()] + i * size + k] = self.a[i * (n + 1) + n];
+                results[self.starts[last.job()] + i * size + k] = self.a[i * (n + 1) + n];
             }
         }
     }

@@ -4,28 +4,19 @@ use crate::elimination::damages::wrong_word;
 use crate::random::Random;
 use crate::systolic::memory::OwnJobs;
 use crate::systolic::part_starts;
-use crate::ways::wrong_parts;
 
 /// Memory that is made to fit a wrong number has at most as many words.
 pub const MOST_WORDS: usize = 100_000;
 
-/// One of the choices, or `other` where `right` was drawn.
-pub fn pick_but(random: &mut Random, choices: &[usize], right: usize, other: usize) -> usize {
-    match random.pick(choices) {
-        drawn if drawn == right => other,
-        drawn => drawn,
-    }
-}
-
 /// From `least` on, and some that are `right` where high bits are dropped.
 pub fn high_word(random: &mut Random, least: u16, right: u16) -> u16 {
-    let any = random.word().max(least);
+    let (any, high) = (random.word().max(least), 256 + right);
     random.pick(&[
         least,
         least,
         least + 1,
         255,
-        256 + right,
+        high,
         32768 + right,
         65535,
         any,
@@ -45,13 +36,6 @@ pub fn change_count(random: &mut Random, jobs: &mut OwnJobs, order: usize, count
 /// Another number of algebras.
 pub fn change_algebras(random: &mut Random, jobs: &mut OwnJobs, count: usize) {
     jobs.algebras.resize_with(count, || random.below(3) as u16);
-}
-
-/// Not `right`.
-pub fn wrong_count(random: &mut Random, right: usize) -> usize {
-    let less = right.saturating_sub(1);
-    let choices = [0, less, right + 1, 1, 16, 17, 2 * right, 256 + right];
-    pick_but(random, &choices, right, right + 1)
 }
 
 /// A number that no algebra has, in any place; where there is none, nothing.
@@ -85,18 +69,9 @@ fn fit_weights_perhaps(random: &mut Random, jobs: &mut OwnJobs) {
 
 /// Not the sum of n². Among them the length if every job were full.
 pub fn wrong_words_len(random: &mut Random, jobs: &OwnJobs, order: usize) -> usize {
-    let right = jobs.lent().words();
-    if right > MOST_WORDS {
-        return jobs.weights.len();
-    }
-    match random.below(3) {
-        0 => pick_but(
-            random,
-            &[jobs.sizes.len() * order * order],
-            right,
-            right + 1,
-        ),
-        _ => wrong_parts::wrong_len(random, order, right),
+    match jobs.lent().words() {
+        right if right > MOST_WORDS => jobs.weights.len(),
+        right => random.not(right, &[order, jobs.sizes.len() * order * order]),
     }
 }
 
@@ -121,20 +96,15 @@ fn reach_places(jobs: &OwnJobs) -> Vec<usize> {
         .collect()
 }
 
-/// Not 4 + 3N² and not below 4: a plane missing, the header missing, another order's, or a little off.
+/// Not 4 + 3N² and not below 4: a plane missing, the header missing, or another order's too.
 pub fn wrong_state_len(random: &mut Random, order: usize) -> usize {
     let of_order = |order: usize| 4 + 3 * order * order;
     let right = of_order(order);
-    let choices = [
-        4,
-        right - 4,
-        right - 1,
-        right + 1,
-        right - order * order,
+    let others = [
         of_order(order - 1),
         of_order(order + 1),
-        2 * right,
-        65536 + right,
+        right - 4,
+        right - order * order,
     ];
-    random.pick(&choices).max(4)
+    random.not(right, &others).max(4)
 }

@@ -87,7 +87,11 @@ pub fn border_texts() -> Vec<Border> {
     ];
     for (before, lines) in before {
         let at = before.lines().count() as u32 + 1;
-        for &(line, number) in lines {
+        let lines = lines.iter().flat_map(|&(number, lines)| {
+            let lines = lines.split('|');
+            lines.map(move |line| (line, number))
+        });
+        for (line, number) in lines {
             borders.push(border(&format!("{before}{line}"), number, at));
             // With one more line, which is skipped but counts where the text ends early.
             let last = if number == 17 { at + 1 } else { at };

@@ -1,5 +1,6 @@
 //! Random lists of jobs, with algebras, sizes and tables that meet different ends of the array.
 
+use crate::agreement::have_same_links;
 use crate::algebra::Algebra;
 use crate::elimination::lengths::{self, lengths};
 use crate::elimination::tables::{table, Kind};
@@ -86,11 +87,7 @@ pub fn longest_list(random: &mut Random) -> JobList {
             weights[hub * points + other] = random.between(10_000, 32_767) as u16;
             weights[other * points + hub] = random.between(10_000, 32_767) as u16;
         }
-        list.push(Job {
-            algebra,
-            size: points,
-            weights: &weights,
-        });
+        list.push(Job::new(algebra, points, &weights));
     }
     list
 }
@@ -124,11 +121,7 @@ pub fn list(
             Sizes::SameHall => hall.job(algebra, size),
             _ => table(random, algebra, size, kind),
         };
-        list.push(Job {
-            algebra,
-            size,
-            weights: &weights,
-        });
+        list.push(Job::new(algebra, size, &weights));
     }
     list
 }
@@ -207,16 +200,18 @@ pub fn has_job_below_order(list: &JobList) -> bool {
     list.sizes.iter().any(|&size| size < list.order)
 }
 
-/// Whether some job has another size than the one before it.
-pub fn sizes_differ(list: &JobList) -> bool {
-    list.sizes.windows(2).any(|pair| pair[0] != pair[1])
-}
-
 /// Whether some job has another size than the one before it, and another algebra.
 pub fn neighbours_differ(list: &JobList) -> bool {
     let jobs = list.jobs();
     let mut pairs = jobs.windows(2);
     pairs.any(|pair| pair[0].size != pair[1].size && pair[0].algebra != pair[1].algebra)
+}
+
+/// Whether some job has another size than the one before it, in the same algebra.
+pub fn sizes_differ(list: &JobList) -> bool {
+    let jobs = list.jobs();
+    let mut pairs = jobs.windows(2);
+    pairs.any(|pair| pair[0].size != pair[1].size && pair[0].algebra == pair[1].algebra)
 }
 
 /// Whether some job and the one before it are one hall with more and with fewer points, at least 2. Tables of one word
@@ -234,18 +229,7 @@ pub fn has_same_hall(list: &JobList) -> bool {
 
 /// Whether some job in reach has the links of a neighbour in another algebra, at least 2 points. As above.
 pub fn has_hall_in_two_algebras(list: &JobList) -> bool {
-    list.jobs().windows(2).any(|pair| {
-        let (reach, other) = match pair[0].algebra {
-            Algebra::Reach => (pair[0], pair[1]),
-            _ => (pair[1], pair[0]),
-        };
-        let are_two = reach.algebra == Algebra::Reach && other.algebra != Algebra::Reach;
-        are_two && reach.size == other.size && reach.size >= 2 && have_same_links(reach, other)
-    })
-}
-
-fn have_same_links(reach: Job, other: Job) -> bool {
-    let links = reach.weights.iter().zip(other.weights).enumerate();
-    let mut links = links.filter(|(at, _)| at % (reach.size + 1) != 0);
-    links.all(|(_, (&link, &word))| (link == 1) == (word != other.algebra.none()))
+    let jobs = list.jobs();
+    let mut pairs = jobs.windows(2);
+    pairs.any(|pair| pair[0].size >= 2 && have_same_links(&pair[0], &pair[1]))
 }

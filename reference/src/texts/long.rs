@@ -4,37 +4,24 @@ use crate::job_text::MAX_TEXT;
 use crate::random::Random;
 use crate::texts::damage::{damaged_text, NUMBERS};
 use crate::texts::lists::{largest_list, medium_list, small_list};
-use crate::texts::writing::{text, Freedom};
+use crate::texts::writing::text_of;
 
 /// As long as the largest length or a byte less, or longer.
 pub fn long_text(random: &mut Random) -> Vec<u8> {
     let number = random.pick(&NUMBERS);
     let short = match random.below(5) {
         0 => damaged_text(random, number),
-        1 => {
-            let list = medium_list(random);
-            text(random, Freedom(0), &list)
-        }
-        2 => {
-            let list = largest_list(random);
-            text(random, Freedom(0), &list)
-        }
-        _ => {
-            let (freedom, list) = (Freedom::any(random), small_list(random));
-            text(random, freedom, &list)
-        }
+        1 => text_of(random, medium_list, &[0]),
+        2 => text_of(random, largest_list, &[0]),
+        _ => text_of(random, small_list, &[0, 2, 5, 20]),
     };
     let beyond = random.between(2, 5_000);
-    let len = random.pick(&[
-        MAX_TEXT - 1,
-        MAX_TEXT,
-        MAX_TEXT,
-        MAX_TEXT,
-        MAX_TEXT + 1,
-        MAX_TEXT + 1,
-        MAX_TEXT + beyond,
-        2 * MAX_TEXT,
-    ]);
+    let over = random.pick(&[0, 0, 0, 1, 1, beyond, MAX_TEXT]);
+    let len = if random.one_in(8) {
+        MAX_TEXT - 1
+    } else {
+        MAX_TEXT + over
+    };
     padded(random, short, len)
 }
 

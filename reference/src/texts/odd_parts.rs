@@ -64,22 +64,8 @@ pub const ENDS: [&str; 16] = [
 
 /// In the place of an algebra's name; those of the algebras too, and their numbers.
 pub const ALGEBRAS: [&str; 16] = [
-    "reach",
-    "distance",
-    "steepest",
-    "Reach",
-    "reac",
-    "reach1",
-    "distances",
-    "steep",
-    "-",
-    "0",
-    "1",
-    "2",
-    "65536",
-    "list",
-    "reach)",
-    "reach\r",
+    "reach", "distance", "steepest", "Reach", "reac", "reach1", "reaches", "steep", "-", "0", "1",
+    "2", "65536", "list", "reach)", "reach\r",
 ];
 
 /// A form, right in itself, that may not be due.

@@ -47,6 +47,16 @@ pub fn text(random: &mut Random, freedom: Freedom, list: &JobList) -> Vec<u8> {
     written(random, freedom, &lines)
 }
 
+/// The text of a drawn list, with one of these freedoms.
+pub fn text_of(
+    random: &mut Random,
+    list: fn(&mut Random) -> JobList,
+    freedoms: &[usize],
+) -> Vec<u8> {
+    let (freedom, list) = (Freedom(random.pick(freedoms)), list(random));
+    text(random, freedom, &list)
+}
+
 pub fn draft(random: &mut Random, freedom: Freedom, list: &JobList) -> Draft {
     let order = numeral(random, freedom, list.order);
     let mut lines = vec![Line::new(&["(list", &order], "")];

@@ -1,54 +1,44 @@
-//! Calls that have to be refused: a right call, damaged in one or more of its parts.
+//! What can be wrong with a call that asks for a way.
 
 use crate::algebra::Algebra;
+use crate::damages::Damage;
 use crate::elimination::damages::{wrong_algebra, wrong_word};
+use crate::elimination::tables::{table, Kind};
 use crate::random::Random;
-use crate::ways::tables::{layout, Kind};
 use crate::ways::wrong_parts::*;
 use crate::ways::{Hall, Question};
 use crate::MAX_SIZE;
 
-#[derive(Clone, Copy, Debug, PartialEq, Eq)]
-pub enum Damage {
-    Algebra,
-    Size,
-    LinksLen,
-    ClosedLen,
-    LinkWord,
-    ListLen,
-    From,
-    To,
-    ClosedWords,
-    NoWay,
-}
-
-impl Damage {
-    pub const ALL: [Damage; 10] = [
-        Damage::Algebra,
-        Damage::Size,
-        Damage::LinksLen,
-        Damage::ClosedLen,
-        Damage::LinkWord,
-        Damage::ListLen,
-        Damage::From,
-        Damage::To,
-        Damage::ClosedWords,
-        Damage::NoWay,
-    ];
-
-    /// The refusal for this damage alone.
-    pub fn number(self) -> u32 {
-        match self {
-            Damage::Algebra => 1,
-            Damage::Size => 2,
-            Damage::LinksLen => 3,
-            Damage::ClosedLen => 4,
-            Damage::LinkWord => 5,
-            Damage::ListLen | Damage::From | Damage::To | Damage::ClosedWords => 19,
-            Damage::NoWay => 20,
-        }
-    }
-}
+/// From the last test to the first.
+pub const DAMAGES: [Damage<Call>; 10] = [
+    ("no way", 20, |_, _, _| {}),
+    ("closed table", 19, |random, call, _| {
+        damage_closed(random, call)
+    }),
+    ("to", 19, |random, call, right| {
+        call.to = outside(random, right.size, right.to);
+    }),
+    ("from", 19, |random, call, right| {
+        call.from = outside(random, right.size, right.from);
+    }),
+    ("length of the list", 19, |random, call, right| {
+        call.list_len = random.not(right.size, &[right.size.pow(2)]);
+    }),
+    ("a word above 1", 5, |random, call, right| {
+        let (place, word) = wrong_word(random, right.size);
+        call.links[place] = word;
+    }),
+    ("length of the closed table", 4, |random, call, right| {
+        resize(random, right.size, &mut call.closed);
+    }),
+    ("length of the links", 3, |random, call, right| {
+        resize(random, right.size, &mut call.links);
+    }),
+    ("size", 2, |random, call, _| damage_size(random, call)),
+    ("algebra", 1, |random, call, right| {
+        call.algebra = wrong_algebra(random, right.algebra);
+    }),
+];
 
 /// A call that holds its own tables, to be damaged.
 #[derive(Clone, Debug)]
@@ -75,33 +65,8 @@ impl Call {
     }
 }
 
-/// A call with each of the damages: the lowest of their numbers is the one that it is refused with.
-pub fn damaged_call(random: &mut Random, damages: &[Damage]) -> Call {
-    let has = |damage| damages.contains(&damage);
-    let mut call = right_call(random, has(Damage::LinkWord), has(Damage::NoWay));
-    // From the last test to the first, so that each damage finds the parts it looks at still right.
-    for damage in Damage::ALL.into_iter().rev().filter(|&damage| has(damage)) {
-        match damage {
-            Damage::NoWay => {}
-            Damage::ClosedWords => damage_closed(random, &mut call),
-            Damage::To => call.to = outside(random, call.size, call.to),
-            Damage::From => call.from = outside(random, call.size, call.from),
-            Damage::ListLen => call.list_len = wrong_len(random, call.size, call.size),
-            Damage::LinkWord => {
-                let (place, word) = wrong_word(random, call.size);
-                call.links[place] = word;
-            }
-            Damage::ClosedLen => resize(random, call.size, &mut call.closed),
-            Damage::LinksLen => resize(random, call.size, &mut call.links),
-            Damage::Size => damage_size(random, &mut call),
-            Damage::Algebra => call.algebra = wrong_algebra(random, call.algebra),
-        }
-    }
-    call
-}
-
 /// Only reach has words that are refused. Without a way, the call is right apart from that.
-fn right_call(random: &mut Random, in_reach: bool, no_way: bool) -> Call {
+pub fn right_call(random: &mut Random, in_reach: bool, no_way: bool) -> Call {
     loop {
         let algebra = match in_reach {
             true => Algebra::Reach,
@@ -110,7 +75,7 @@ fn right_call(random: &mut Random, in_reach: bool, no_way: bool) -> Call {
         let largest = random.pick(&[2, 4, 4, 4, 8, 8, 8, 16, 16, 32, MAX_SIZE]);
         let size = random.between(1, largest);
         let kind = random.pick(&Kind::ALL);
-        let links = layout(random, algebra, size, kind).links;
+        let links = table(random, algebra, size, kind);
         let hall = Hall::new(algebra, size, links);
         let pairs = (0..size * size).map(|at| (at / size, at % size));
         let fit: Vec<_> = pairs

@@ -1,16 +1,13 @@
 //! The way itself, as K2 of document 02 wants it: for two points of a table, a way from the first to the second with no
 //! point twice whose word is the closed entry. Which of several is free, so that a list is judged and not compared.
 
+pub mod comparison;
 pub mod counting;
 pub mod damages;
-pub mod host_call;
 pub mod judge;
-pub mod lending;
 pub mod refusal;
 pub mod rust_search;
 pub mod search;
-pub mod tables;
-pub mod tally;
 pub mod wrong_parts;
 
 use crate::algebra::Algebra;
@@ -25,6 +22,14 @@ pub struct Question<'a> {
     pub closed: &'a [u16],
     pub from: usize,
     pub to: usize,
+}
+
+impl Question<'_> {
+    /// Where the algebra is known and the links fit.
+    pub fn hall(&self) -> Hall {
+        let algebra = Algebra::ALL[self.algebra as usize];
+        Hall::new(algebra, self.size, self.links.to_vec())
+    }
 }
 
 /// A table of links with the tables of its elimination.

@@ -17,49 +17,17 @@ pub fn damage_size(random: &mut Random, call: &mut Call) {
     }
 }
 
+/// The length of a line in the place of a table's too.
 pub fn resize(random: &mut Random, size: usize, table: &mut Vec<u16>) {
-    let len = wrong_len(random, size, table.len());
+    let len = random.not(table.len(), &[size]);
     table.resize(len, 1);
 }
 
-/// Other than `right`. The length of a line in the place of a table's and the other way round, and the number of bytes
-/// in the place of the number of words.
-pub fn wrong_len(random: &mut Random, size: usize, right: usize) -> usize {
-    let choices = [
-        0,
-        right.saturating_sub(1),
-        right + 1,
-        size,
-        size * size,
-        right / 2,
-        right * 2,
-        256 + right,
-        65536 + right,
-        random.below(2 * right + 2),
-    ];
-    match random.pick(&choices) {
-        len if len == right => right + 1,
-        len => len,
-    }
-}
-
-/// A number that is no point. Some are the point again where high bits are dropped, and with some the entry's place
-/// lies in the table still.
+/// A number that is no point. With some the entry's place lies in the table still.
 pub fn outside(random: &mut Random, size: usize, point: usize) -> usize {
     let in_table = random.between(size, size * size);
-    random.pick(&[
-        size,
-        size,
-        size + 1,
-        size + point,
-        in_table,
-        256 + point,
-        65536 + point,
-        (1 << 32) + point,
-        (1 << 63) + point,
-        usize::MAX - point,
-        usize::MAX,
-    ])
+    let large = random.large(point);
+    random.pick(&[size, size, size + 1, size + point, in_table, large, large])
 }
 
 /// Mostly one word changed.

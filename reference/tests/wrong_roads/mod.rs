@@ -1,48 +1,35 @@
-//! A third reader of road files that can be made wrong in one thing, and what the comparison says of it.
+//! A third reader of road files that can be made wrong in one thing.
 
-mod arcs;
 pub mod faults;
 mod lines;
 mod reading;
 
 use faults::Fault;
 use reading::read_lines;
-use reference::random::Random;
-use reference::road::border::neighbours;
-use reference::road::calls::Call;
-use reference::road::comparison::Comparison;
-use reference::road::kinds::KINDS;
-use reference::road::memory::Memory;
+use reference::calls::Calls;
 use reference::road::WORDS;
-
-/// The first difference of some files: a part of each kind, and then a file's neighbours.
-pub fn found(call: impl Call) -> Option<String> {
-    let mut comparison = Comparison::new(call, Random::new(43));
-    for kind in &KINDS {
-        for _ in 0..kind.files / 10 {
-            if let Err(what) = comparison.compare(kind) {
-                return Some(what);
-            }
-        }
-    }
-    let mut compared = neighbours()
-        .into_iter()
-        .map(|file| comparison.compare_file(&file, None));
-    compared.find_map(Result::err)
-}
 
 /// Right where it has no fault.
 pub struct Reader(pub Option<Fault>);
 
-impl Call for Reader {
-    fn read(&self, memory: &mut Memory) -> u32 {
-        let (read, table) = read_lines(memory.file(), self.0);
-        let answer = self.with_buffer(read, memory.table.len());
+impl Calls for Reader {
+    fn read(&self, file: &[u8], words: &mut [u16], points: &mut usize) -> u32 {
+        let (read, table) = read_lines(file, self.0);
+        let answer = self.with_buffer(read, words.len());
         match answer {
-            Ok(points) => self.leave_table(memory, &table, points),
-            Err(_) => self.leave_refused(memory, &table),
+            Ok(number) => {
+                self.leave_table(words, &table, number);
+                if !self.is(Fault::PointsUnwritten) {
+                    *points = number;
+                }
+            }
+            Err(_) => {
+                self.leave_refused(words, &table);
+                if self.is(Fault::PointsAtRefusal) {
+                    *points = 0;
+                }
+            }
         }
-        self.write_beside(memory);
         answer.err().unwrap_or(0)
     }
 }
@@ -61,45 +48,23 @@ impl Reader {
         }
     }
 
-    fn leave_table(&self, memory: &mut Memory, table: &[u16], points: usize) {
-        let (_, words, lent_points) = memory.lent();
+    fn leave_table(&self, words: &mut [u16], table: &[u16], points: usize) {
         if self.is(Fault::RestIsJunk) {
             words[..points * points].copy_from_slice(&table[..points * points]);
         } else {
             words.fill(0);
             words[..WORDS].copy_from_slice(table);
         }
-        if !self.is(Fault::PointsUnwritten) {
-            *lent_points = points;
-        }
     }
 
-    fn leave_refused(&self, memory: &mut Memory, table: &[u16]) {
-        let (_, words, points) = memory.lent();
-        if words.len() == WORDS {
-            if self.is(Fault::TableAtRefusal) {
-                words.copy_from_slice(table);
-            } else if !self.is(Fault::JunkAtRefusal) {
-                words.fill(0);
-            }
-        } else if self.is(Fault::WrongBufferBeyond) {
-            let len = words.len().min(WORDS);
-            words[..len].fill(0);
-        } else if !self.is(Fault::JunkAtWrongBuffer) {
-            words.fill(0);
-        }
-        if self.is(Fault::PointsAtRefusal) {
-            *points = 0;
-        }
-    }
-
-    fn write_beside(&self, memory: &mut Memory) {
+    fn leave_refused(&self, words: &mut [u16], table: &[u16]) {
+        let len = words.len();
         match self.0 {
-            Some(Fault::WordBefore) => memory.words[memory.table.start - 1] ^= 1,
-            Some(Fault::WordAfter) => memory.words[memory.table.end] ^= 1,
-            Some(Fault::PointsBeside) => memory.points[2] ^= 1,
-            Some(Fault::FileChanged) => memory.bytes[memory.file.start] ^= 1,
-            _ => {}
+            Some(Fault::TableAtRefusal) if len == WORDS => words.copy_from_slice(table),
+            Some(Fault::JunkAtRefusal) if len == WORDS => {}
+            Some(Fault::JunkAtWrongBuffer) if len != WORDS => {}
+            Some(Fault::WrongBufferBeyond) => words[..len.min(WORDS)].fill(0),
+            _ => words.fill(0),
         }
     }
 }

@@ -1,6 +1,5 @@
 //! The lines one after another, into a table.
 
-use super::arcs::{held, is_outside};
 use super::faults::Fault;
 use super::lines::{numeral, parse, split, Line};
 use reference::road::WORDS;
@@ -18,10 +17,9 @@ struct Reading {
 
 /// The answer, and the table as far as it is read.
 pub fn read_lines(file: &[u8], fault: Option<Fault>) -> (Result<usize, u32>, Vec<u16>) {
-    let rest = if fault == Some(Fault::RestIsNone) {
-        NONE
-    } else {
-        0
+    let rest = match fault {
+        Some(Fault::RestIsNone) => NONE,
+        _ => 0,
     };
     let mut reading = Reading {
         fault,
@@ -166,11 +164,8 @@ impl Reading {
 
     fn end(&self) -> Result<usize, u32> {
         let Some((points, arcs)) = self.problem else {
-            return Err(if self.is(Fault::NoProblemIsCount) {
-                23
-            } else {
-                21
-            });
+            let is_count = self.is(Fault::NoProblemIsCount);
+            return Err(if is_count { 23 } else { 21 });
         };
         if self.is_out_of_range {
             return Err(22);
@@ -184,10 +179,35 @@ impl Reading {
             Some(Fault::CountIn32Bits) => self.arcs & 0xffff_ffff == arcs & 0xffff_ffff,
             _ => self.arcs == arcs,
         };
-        if holds {
-            Ok(points as usize)
-        } else {
-            Err(23)
-        }
+        holds.then_some(points as usize).ok_or(23)
     }
+}
+
+fn is_outside(fault: Option<Fault>, points: u64, from: u64, to: u64) -> bool {
+    let outside = |end: u64| match fault {
+        Some(Fault::Point0Allowed) => end > points,
+        Some(Fault::OnePointMore) => end == 0 || end > points + 1,
+        Some(Fault::PointIn16Bits) => end & 0xffff == 0 || end & 0xffff > points,
+        Some(Fault::PointIn32Bits) => end & 0xffff_ffff == 0 || end & 0xffff_ffff > points,
+        _ => end == 0 || end > points,
+    };
+    match fault {
+        Some(Fault::OwnArcUntested) if from == to => false,
+        Some(Fault::FromUntested) => outside(to),
+        Some(Fault::ToUntested) => outside(from),
+        _ => outside(from) || outside(to),
+    }
+}
+
+/// The word of a length, and nothing where the arc is passed over.
+fn held(fault: Option<Fault>, length: u64) -> Option<u16> {
+    let word = match fault {
+        Some(Fault::ZeroIsNone) if length == 0 => return None,
+        Some(Fault::LowBitsStand) => length as u16,
+        Some(Fault::LengthIn32Bits) => (length & 0xffff_ffff).min(65534) as u16,
+        Some(Fault::HeldAt65533) => length.min(65533) as u16,
+        Some(Fault::HeldAt65535) => length.min(65535) as u16,
+        _ => length.min(65534) as u16,
+    };
+    Some(word)
 }
