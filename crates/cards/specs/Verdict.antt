@@ -5,5 +5,5 @@ use mathlib.Core.List.{List}
 use Rattle.text.specs.Ascii.{ascii}
 
 abbrev pub verdictOf : Bool → List ℕ
-verdictOf true = ascii "pass\n"
-verdictOf false = ascii "FAIL\n"
+verdictOf true = ascii "right\n"
+verdictOf false = ascii "wrong\n"

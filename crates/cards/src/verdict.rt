@@ -6,13 +6,13 @@ ghost use Rattle.cards.specs.Verdict.{verdictOf};
 use libc::STDOUT_FILENO;
 use text::equal;
 
-fn verdict(passed: bool) -> [u8; 5]
+fn verdict(passed: bool) -> [u8; 6]
     ensures { λ r. ⌜ r ≡ verdictOf passed ⌝ }
 {
     if passed {
-        return [b'p', b'a', b's', b's', b'\n'];
+        return [b'r', b'i', b'g', b'h', b't', b'\n'];
     }
-    [b'F', b'A', b'I', b'L', b'\n']
+    [b'w', b'r', b'o', b'n', b'g', b'\n']
 }
 
 pub fn tell(card: &[u8], passed: bool) {
@@ -20,10 +20,10 @@ pub fn tell(card: &[u8], passed: bool) {
     io::write_all(STDOUT_FILENO, &verdict(passed));
 }
 
-// Of a card that expects what is wrong: it passes where it was told wrong.
+// Of a card that expects what is wrong, by the same words: one that comes out right shows against the stored output.
 pub fn tell_wrong(card: &[u8], passed: bool) {
-    io::write_all(STDOUT_FILENO, b"told wrong, as it must be: ");
-    tell(card, !passed);
+    io::write_all(STDOUT_FILENO, b"must be wrong: ");
+    tell(card, passed);
 }
 
 // Whether the page's first bytes are the text.

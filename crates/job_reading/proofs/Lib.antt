@@ -6,3 +6,4 @@ pub mod LineTests
 pub mod Refusals
 pub mod Borders
 pub mod Zeroed
+pub mod Given

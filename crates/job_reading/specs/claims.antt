@@ -5,3 +5,4 @@ pub mod Listing
 pub mod Whole
 pub mod Refusals
 pub mod Zeroed
+pub mod Given

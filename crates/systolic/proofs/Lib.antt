@@ -13,3 +13,4 @@ pub mod Totals
 pub mod Refusals
 pub mod Zero
 pub mod Cards
+pub mod Rule

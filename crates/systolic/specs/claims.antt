@@ -4,3 +4,4 @@ pub mod Demand
 pub mod Corollaries
 pub mod Zero
 pub mod Cards
+pub mod Rule

@@ -49,6 +49,14 @@ pub record Answers : Type 0 where
   pub self-3 : reading (ascii "p sp 2 1\na 3 3 5") ≡ refused 22
   pub form-before-point : reading (ascii "p sp 2 1\na 3 1 x") ≡ refused 21
   pub point-line-first : reading (ascii "p sp 2 1\na 3 1 1\nx") ≡ refused 22
+  pub arc-trailing-space : reading (ascii "p sp 2 1\na 1 2 3 ") ≡ refused 21
+  pub arc-leading-space : reading (ascii "p sp 2 1\n a 1 2 3") ≡ refused 21
+  pub arc-eleven-digits : reading (ascii "p sp 2 1\na 1 2 00000000003") ≡ refused 21
+  pub arc-eleven-in-from : reading (ascii "p sp 2 1\na 00000000001 2 3") ≡ refused 21
+  pub arc-eleven-in-to : reading (ascii "p sp 2 1\na 1 00000000002 3") ≡ refused 21
+  pub arc-ten-digits : reading (ascii "p sp 2 1\na 0000000001 0000000002 0000000003") ≡ accepted 2
+  pub arc-part-more : reading (ascii "p sp 2 1\na 1 2 3 4") ≡ refused 21
+  pub arc-return : reading (ascii "p sp 2 1\na 1 2 3\r") ≡ refused 21
   pub one-too-many : reading (ascii "p sp 2 0\na 1 2 5") ≡ refused 23
   pub one-too-few : reading (ascii "p sp 2 2\na 1 2 5") ≡ refused 23
   pub far-too-few : reading (ascii "p sp 2 4294967297\na 1 2 5") ≡ refused 23
