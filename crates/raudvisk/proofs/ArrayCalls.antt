@@ -1,34 +1,38 @@
--- The calls for other languages, from the answers of the calls behind them.
+-- `array_run`, from what `run` answered.
 use Prim.Native.Nat.{ℕ}
-use mathlib.Core.Path.{_≡_, ap, _∙_}
-use mathlib.Core.Logic.{_≢_}
+use mathlib.Core.Path.{_≡_, sym, ap, _∙_}
 use mathlib.Core.List.{List}
-use mathlib.Core.Bool.{cond}
-use lib.Dec.{eqb}
 use borrow.Author.Tests.{eq-eqb, ne-eqb}
+use Rattle.refusals.specs.Reason.{reasonNumber}
+use Rattle.refusals.specs.declared.Reason.{Reason}
+use Rattle.refusals.proofs.Reasons.{reason-some}
 use Rattle.systolic.specs.Run.{Ran}
 use Rattle.array.specs.declared.running.RunAnswer.{RunAnswer}
+use Rattle.array.specs.declared.running.RunAnswer.the-variants.{Made, Refused}
 use Rattle.array.specs.RunAnswer.{runNumber, runMade, Answered}
 use Rattle.raudvisk.specs.ArrayCalls.{RanHost}
 
 module _ {answer : RunAnswer} {state scratch results : List ℕ} {due : Ran} (answered : Answered answer state scratch results due)
-    {number : ℕ} (is : number ≡ runNumber answer) where
-  told : number ≡ due .number
-  told = is ∙ answered .number
+    {made : ℕ} where
+  pub host-made : {ticks : ℕ} → answer ≡ Made ticks → RanHost 0 made ticks state scratch results due
+  host-made {ticks} e =
+      let number : 0 ≡ due .number = sym (ap runNumber e) ∙ answered .number in
+      record {
+        outcome = number;
+        ticks = sym (ap runMade e) ∙ answered .made ∙ rw (eq-eqb (due .number) 0 (sym number));
+        state-after = answered .state-after;
+        scratch-after = answered .scratch-after;
+        results-after = answered .results-after;
+      }
 
-  host : {made made′ : ℕ} → made′ ≡ cond (eqb number 0) (due .made) made → RanHost number made made′ state scratch results due
-  host {made} ticks = record {
-    outcome = told;
-    ticks = ticks ∙ ap (λ (x : ℕ). cond (eqb x 0) (due .made) made) told;
-    state-after = answered .state-after;
-    scratch-after = answered .scratch-after;
-    results-after = answered .results-after;
-  }
-
-  pub host-refused : {made : ℕ} → number ≢ 0 → RanHost number made made state scratch results due
-  host-refused refused = host (rw (ne-eqb number 0 refused))
-
-  pub host-ran : {made made′ : ℕ} → number ≡ 0 → made′ ≡ runMade answer → RanHost 0 made made′ state scratch results due
-  host-ran {made} {made′} accepted ticks =
-      let answer-made : made′ ≡ due .made = ticks ∙ answered .made in
-      rw accepted at (host {made = made} (answer-made ∙ rw (eq-eqb number 0 accepted)))
+  pub host-refused : {reason : Reason} {number : ℕ} → answer ≡ Refused reason → number ≡ reasonNumber reason
+      → RanHost number made made state scratch results due
+  host-refused {reason} {number} e told =
+      let is : reasonNumber reason ≡ due .number = sym (ap runNumber e) ∙ answered .number in
+      record {
+        outcome = told ∙ is;
+        ticks = rw (ne-eqb (due .number) 0 (λ z. reason-some reason (is ∙ z)));
+        state-after = answered .state-after;
+        scratch-after = answered .scratch-after;
+        results-after = answered .results-after;
+      }

@@ -1,9 +1,9 @@
 // The array's calls for other languages.
 ghost use Rattle.systolic.specs.Run.{ran};
 ghost use Rattle.raudvisk.specs.ArrayCalls.{StartedHost, RanHost};
+use array::RunAnswer;
 use array::run;
-use array::run_number;
-use array::ticks_made;
+use refusals::number;
 use starting::start;
 use starting::start_number;
 
@@ -39,10 +39,13 @@ pub extern "C" fn array_run(
         (now (results .entry))) ⌝ }
 {
     let answer = run(state, algebras, sizes, weights, allowance, scratch, results);
-    let number = run_number(answer);
-    if number != 0 {
-        return number;
+    match answer {
+        RunAnswer::Made(ticks) => {
+            *made = ticks;
+            return 0;
+        }
+        RunAnswer::Refused(reason) => {
+            return number(reason);
+        }
     }
-    *made = ticks_made(answer);
-    0
 }
