@@ -1,8 +1,10 @@
 /*
- * Measures the stack that the elimination and the reader of road files need, on a stack painted before the call, and holds it to
- * the figures of paths.h and road.h. Which arrays share a frame is the compiler's choice, and no proof speaks of it.
+ * Measures the stack that the elimination, that of a range, and the reader of road files need, on a stack painted before the call,
+ * and holds it to the figures of paths.h, interval.h and road.h. Which arrays share a frame is the compiler's choice, and no proof
+ * speaks of it.
  */
 #define _XOPEN_SOURCE 600
+#include "interval.h"
 #include "paths.h"
 #include "road.h"
 
@@ -11,9 +13,14 @@
 #include <string.h>
 #include <ucontext.h>
 
-enum { STACK_BYTES = 1 << 18, PAINT = 0xA5, MAX_BYTES = 2 * PATHS_MAX_SIZE * PATHS_MAX_SIZE };
+enum {
+    STACK_BYTES = 1 << 18,
+    PAINT = 0xA5,
+    MAX_WORDS = PATHS_MAX_SIZE * PATHS_MAX_SIZE,
+    MAX_BYTES = 2 * MAX_WORDS
+};
 
-/* The largest size that fits each figure, and the figure in KB. */
+/* The largest size that fits each figure of paths.h, and the figure in KB. */
 static const struct {
     size_t size, kilobytes;
 } rooms[] = {{8, 1}, {16, 2}, {64, 10}, {PATHS_MAX_SIZE, 34}};
@@ -22,11 +29,19 @@ static ucontext_t caller, painted;
 static uint8_t weights[MAX_BYTES], result[MAX_BYTES], stack[STACK_BYTES];
 static uint32_t algebra, outcome;
 static size_t size;
+static int failed;
 
 static void eliminate(void)
 {
     size_t bytes = 2 * size * size;
     outcome = paths_eliminate(algebra, size, weights, bytes, result, bytes);
+}
+
+static void close_range(void)
+{
+    static uint16_t best[MAX_WORDS], worst[MAX_WORDS], best_result[MAX_WORDS], worst_result[MAX_WORDS];
+    size_t words = size * size;
+    outcome = interval_close_range(algebra, size, best, words, worst, words, best_result, words, worst_result, words);
 }
 
 static void read_file(void)
@@ -62,29 +77,28 @@ static size_t touched(void (*function)(void))
     return STACK_BYTES - at;
 }
 
-int main(void)
+/* The stack that a call uses, held to what its header says. The first call binds the C library's functions. */
+static size_t hold(void (*call)(void), const char *header, size_t kilobytes)
 {
     size_t own = touched(nothing);
-    int failed = 0;
-    /* The first call binds the C library's functions. */
-    size = 1;
-    touched(eliminate);
+    touched(call);
+    size_t used = touched(call) - own;
+    if (outcome != PATHS_OK || used > 1024 * kilobytes) {
+        printf("stack: %s says %zu KB\n", header, kilobytes);
+        failed = 1;
+    }
+    return used;
+}
+
+int main(void)
+{
     for (size_t room = 0; room < sizeof rooms / sizeof rooms[0]; room++)
         for (algebra = PATHS_REACH; algebra <= PATHS_STEEPEST; algebra++) {
             size = rooms[room].size;
-            size_t used = touched(eliminate) - own;
-            printf("stack: %zu points, algebra %u: %zu bytes\n", size, (unsigned)algebra, used);
-            if (outcome != PATHS_OK || used > 1024 * rooms[room].kilobytes) {
-                printf("stack: paths.h says %zu KB\n", rooms[room].kilobytes);
-                failed = 1;
-            }
+            size_t used = hold(eliminate, "paths.h", rooms[room].kilobytes);
+            size_t of_range = hold(close_range, "interval.h", 1);
+            printf("stack: %zu points, algebra %u: %zu bytes, a range: %zu bytes\n", size, (unsigned)algebra, used, of_range);
         }
-    touched(read_file);
-    size_t used = touched(read_file) - own;
-    printf("stack: a road file: %zu bytes\n", used);
-    if (outcome != ROAD_OK || used > 1024) {
-        printf("stack: road.h says less than 1 KB\n");
-        failed = 1;
-    }
+    printf("stack: a road file: %zu bytes\n", hold(read_file, "road.h", 1));
     return failed;
 }

@@ -52,6 +52,11 @@ impl Algebra {
         }
     }
 
+    /// Whether a word betters another: it differs from it and is their sum.
+    pub fn betters(self, x: u16, y: u16) -> bool {
+        x != y && self.sum(x, y) == x
+    }
+
     /// Two links joined. In distance none comes only from none.
     pub fn product(self, x: u16, y: u16) -> u16 {
         match self {

@@ -2,6 +2,7 @@
 
 use crate::algebra::Algebra;
 use crate::elimination::{self, bytes_of, words_of};
+use crate::ranges::{self, Bounds};
 use crate::road::reader;
 use crate::systolic::{self, Jobs, LentRun};
 use crate::ways::{self, Question};
@@ -26,6 +27,18 @@ pub trait Calls {
             let way = ways::search::way(&asked.hall(), asked.from, asked.to);
             list[..way.len()].copy_from_slice(&way);
             *length = way.len();
+        }
+        number
+    }
+
+    /// Closes the table of best words and that of worst words, each into its own result.
+    fn close_range(&self, asked: &Bounds, results: [&mut [u16]; 2]) -> u32 {
+        let lens = results.each_ref().map(|result| result.len());
+        let number = ranges::refusal::refusal(asked, lens);
+        if number == 0 {
+            for (closed, result) in asked.closed().iter().zip(results) {
+                result.copy_from_slice(closed);
+            }
         }
         number
     }

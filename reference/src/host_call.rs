@@ -2,6 +2,7 @@
 //! like those in host/ by hand.
 
 use crate::calls::Calls;
+use crate::ranges::Bounds;
 use crate::systolic::{Jobs, LentRun};
 use crate::ways::Question;
 
@@ -36,6 +37,14 @@ c_calls! {
         from: usize, to: usize,
         list: *mut u16, list_len: usize,
         length: *mut usize,
+    ) -> u32;
+
+    fn interval_close_range(
+        algebra: u32, size: usize,
+        best: *const u16, best_len: usize,
+        worst: *const u16, worst_len: usize,
+        best_result: *mut u16, best_result_len: usize,
+        worst_result: *mut u16, worst_result_len: usize,
     ) -> u32;
 
     fn array_start(
@@ -93,6 +102,24 @@ impl Calls for Proved {
                 list.as_mut_ptr(),
                 list.len(),
                 length,
+            )
+        }
+    }
+
+    fn close_range(&self, asked: &Bounds, results: [&mut [u16]; 2]) -> u32 {
+        let ([best, worst], [best_result, worst_result]) = (asked.tables, results);
+        unsafe {
+            interval_close_range(
+                asked.algebra,
+                asked.size,
+                best.as_ptr(),
+                best.len(),
+                worst.as_ptr(),
+                worst.len(),
+                best_result.as_mut_ptr(),
+                best_result.len(),
+                worst_result.as_mut_ptr(),
+                worst_result.len(),
             )
         }
     }

@@ -1,6 +1,6 @@
-//! The elimination, the ways, the cell array, the bench program and the reader of road files written anew from documents
-//! 01 and 02, to hold the proved ones against: nothing here is taken from their sources, and they are reached through C
-//! calls and as a process alone. (The benchmark's contenders may use the same tricks.)
+//! The elimination, the ways, the ranges, the cell array, the bench program and the reader of road files written anew from
+//! documents 01 and 02, to hold the proved ones against: nothing here is taken from their sources, and they are reached
+//! through C calls and as a process alone. (The benchmark's contenders may use the same tricks.)
 
 pub mod agreement;
 pub mod algebra;
@@ -13,6 +13,7 @@ pub mod host_call;
 pub mod job_text;
 pub mod lending;
 pub mod random;
+pub mod ranges;
 pub mod road;
 pub mod systolic;
 pub mod tally;

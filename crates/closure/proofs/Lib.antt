@@ -9,3 +9,4 @@ pub mod Simple
 pub mod Ways
 pub mod Refusals
 pub mod Exactly
+pub mod Monotone

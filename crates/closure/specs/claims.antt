@@ -3,3 +3,4 @@ pub mod Refusals
 pub mod Demand
 pub mod Lengths
 pub mod Ways
+pub mod Monotone

@@ -9,22 +9,17 @@ use lib.ListN.{length, take}
 use borrow.Author.Tests.{leb-true}
 use Rattle.memory.specs.Lists.{same}
 use Rattle.memory.proofs.Geometry.{square-fits, front}
-use Rattle.semiring.specs.declared.Algebra.{Algebra}
-use Rattle.closure.specs.Elimination.{eliminated}
-use Rattle.table_layout.specs.LaidOut.{laidOut, ToLayOut}
-use Rattle.elimination.specs.inner.Passes.{PassedAll}
-use Rattle.elimination.proofs.Eliminates.{eliminates}
+use Rattle.table_layout.specs.LaidOut.{ToLayOut}
 use Rattle.closure_test.specs.inner.Tables.{Tables, Roomy}
 
--- what the layout and the passes ask
+-- what the elimination asks
 module _ {n : ℕ} {w c room : List ℕ} (roomy : Roomy n w c room) where
-  pub to-lay-out : ToLayOut n (n * n) w room
-  to-lay-out = record { most = roomy .tables .fits; weights-fit = roomy .tables .links; table-fit = roomy .words; steps = omega arith }
+  pub ready : ToLayOut n (n * n) w room
+  ready = record { most = roomy .tables .fits; weights-fit = roomy .tables .links; table-fit = roomy .words; steps = omega arith }
 
-  -- the table laid out, then closed, is the elimination
-  pub compared : (a : Algebra) (laid made : List ℕ) (answer : Bool) → laid ≡ laidOut a n (n * n) w room → PassedAll a n laid made
-      → answer ≡ same c made → answer ≡ same c (eliminated a n w)
-  compared a laid made answer lays closes told = told ∙ ap (same c) (eliminates a n w room laid made (roomy .words) lays closes)
+-- what was made is compared, so what it is
+pub compared : (c made due : List ℕ) (answer : Bool) → made ≡ due → answer ≡ same c made → answer ≡ same c due
+compared c made due answer e told = told ∙ ap (same c) e
 
 module _ {n most : ℕ} {w c : List ℕ} (tables : Tables n most w c) where
   pub inside : (l : List ℕ) → length l ≡ most * most → n * n ≤ length l

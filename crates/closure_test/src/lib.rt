@@ -5,10 +5,9 @@ ghost use lib.ListN.{length};
 ghost use Rattle.memory.specs.Lists.{same};
 ghost use Rattle.closure.specs.Elimination.{eliminated};
 ghost use Rattle.closure_test.specs.inner.Tables.{Tables, Roomy};
-use elimination::close;
+use elimination::eliminate;
 use memory::same_words;
 use semiring::Algebra;
-use table_layout::lay_out;
 
 fn small_room() -> [u16; 256]
     ensures { λ r. ⌜ length r ≡ 256 ⌝ }
@@ -27,9 +26,7 @@ fn in_room(a: Algebra, n: usize, links: &[u16], closed: &[u16], room: &mut [u16]
     requires { ⌜ Roomy n (now links) (now closed) (now room) ⌝ }
     ensures { λ r. ⌜ r ≡ same (now (closed .entry)) (eliminated a n (now (links .entry))) ⌝ }
 {
-    let cells = n * n;
-    lay_out(a, n, cells, links, room);
-    close(a, n, room);
+    eliminate(a, n, links, room);
     same_words(closed, room)
 }
 

@@ -15,7 +15,7 @@ use Rattle.semiring.specs.declared.Algebra.{Algebra}
 use Rattle.semiring.specs.declared.Algebra.the-variants.{Reach, Distance, Steepest}
 use Rattle.refusals.specs.Tests.{outside}
 use Rattle.refusals.specs.Conditions.{Outside}
-use Rattle.refusals.proofs.Conditions.{Decides, either, decides-outside, decides-differ, decides-above}
+use Rattle.refusals.proofs.Conditions.{Decides, decides-as, either, decides-outside, decides-differ, decides-above}
 use Rattle.job_form.specs.declared.tokens.Token.{Token}
 use Rattle.job_form.specs.declared.tokens.Token.the-variants.{Number, Over, Dash, Name, Other}
 use Rattle.job_form.specs.Words.{wordOf, overIn, noWord}
@@ -26,9 +26,6 @@ use Rattle.job_reading.specs.declared.state.Due.the-variants as due
 use Rattle.job_reading.specs.claims.Refusals.{Numeral, read, over, RowPart, numeral, dash, EachPart, none, and, SomePart, here, later, FormDue, row-stands, OverIn}
 use Rattle.job_reading.specs.claims.Refusals.{over-numeral, dash-in-reach, HasOver, over-word, RowLength, other-length, OrderOutside, order-outside, SizeOutside}
 use Rattle.job_reading.specs.claims.Refusals.{size-outside, AboveOne, above-one, HasAbove, word-above, JobCount, closed-empty, job-17}
-
-decides-as : {b : Bool} {P Q : Type 0} → (P → Q) → (Q → P) → Decides b P → Decides b Q
-decides-as to from d = record { yes = λ e. to (d .yes e); no = λ e q. d .no e (from q) }
 
 yes-is : {P : Type 0} → P → Decides true P
 yes-is p = record { yes = λ e. p; no = λ e q. true≢false e }

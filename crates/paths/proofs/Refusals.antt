@@ -1,15 +1,10 @@
 -- An elimination that is refused, and one that is accepted, from what its checks found.
 use Prim.Native.Nat.{ℕ, _*_}
-use native.Mathlib.Omega.{arith}
 use mathlib.Core.Path.{_≡_, refl, sym, _∙_}
 use mathlib.Core.List.{List}
 use mathlib.Core.Bool.{false}
 use lib.Dec.{eqb}
-use lib.ListN.{length}
-use mir.Syntax.{w64}
-use mir.Val.{Fits}
 use borrow.Author.Tests.{ne-eqb}
-use Rattle.memory.proofs.Geometry.{cells-room}
 use Rattle.semiring.specs.Named.{namedOf}
 use Rattle.semiring.specs.declared.Algebra.{Algebra}
 use Rattle.semiring.specs.declared.Named.{Named}
@@ -24,10 +19,8 @@ use Rattle.checks.specs.declared.Checked.the-variants.{Fit, Refused}
 use Rattle.refusals.specs.declared.Reason.{Reason}
 use Rattle.refusals.proofs.Reasons.{reason-some}
 use Rattle.checks.proofs.Answers.{refused-number, fit-tests, fit-input}
-use Rattle.table_layout.specs.LaidOut.{laidOut, ToLayOut}
-use Rattle.elimination.specs.inner.Passes.{PassedAll}
-use Rattle.elimination.specs.inner.Rows.{Square}
-use Rattle.elimination.proofs.Eliminates.{eliminates}
+use Rattle.table_layout.specs.LaidOut.{ToLayOut}
+use Rattle.elimination.proofs.Eliminates.{to-eliminate}
 use Rattle.paths.specs.declared.Closed.the-variants as closed
 use Rattle.paths.specs.Eliminated.{Eliminated}
 
@@ -42,22 +35,14 @@ module _ {checked : Checked} {algebra n : ℕ} {w r : List ℕ} (found : Checks 
       let k = refused-number found e in
       record { outcome = k; memory = kept (namedOf algebra) n w r (rw (← k) (ne-eqb (reasonNumber reason) 0 (reason-some reason))) }
 
-  -- no test applied: what laying out and closing ask
+  -- no test applied: what the elimination asks
   module _ {a : Algebra} (e : checked ≡ Fit a) where
-    pub cells-fit : Fits w64 (n * n)
-    cells-fit = cells-room (fit-input found e .most)
+    pub ready : ToLayOut n (n * n) w r
+    ready = to-eliminate (fit-input found e)
 
-    pub to-lay-out : ToLayOut n (n * n) w r
-    to-lay-out = let i = fit-input found e in record { most = i .most; weights-fit = i .weights; table-fit = i .result; steps = omega arith }
-
-    pub to-close : {laid : List ℕ} → length laid ≡ length r → Square n laid
-    to-close long = let i = fit-input found e in record { most = i .most; words = long ∙ i .result }
-
-    -- the table was laid out and closed
-    pub accepted : {r′ : List ℕ} (laid : List ℕ) → laid ≡ laidOut a n (n * n) w r → PassedAll a n laid r′
-        → Eliminated closed.Done algebra n w r r′
-    accepted {r′} laid lays closes =
+    -- the table was closed
+    pub accepted : {r′ : List ℕ} → r′ ≡ eliminated a n w → Eliminated closed.Done algebra n w r r′
+    accepted made =
         let k : namedOf algebra ≡ Known a = found .fit a e in
         let none : eliminationTests (Known a) n w r ≡ 0 = fit-tests found a e in
-        let made : r′ ≡ eliminated a n w = eliminates a n w r laid r′ (fit-input found e .result) lays closes in
         record { outcome = rw k (sym none); memory = rw k (made ∙ sym (accepted-result a n w r none)) }

@@ -4,12 +4,12 @@ use native.Mathlib.Omega.{arith}
 use mathlib.Core.Path.{_≡_, refl, sym, _∙_}
 use mathlib.Core.Logic.{_⊎_, inl, inr}
 use mathlib.Core.List.{List, [], _∷_}
-use mathlib.Core.Bool.{Bool, true, false, cond, not, _||_, true≢false}
+use mathlib.Core.Bool.{Bool, true, false, cond, not, _&&_, _||_, true≢false}
 use lib.Dec.{eqb, leb, ltb}
 use lib.ListN.{getD}
 use Rattle.memory.specs.Lists.{any}
 use borrow.Author.Tests.{ltb-false, ltb-true, leb-true, leb-false, eqb-true, eqb-false, not-true, not-false}
-use Rattle.memory.proofs.Any.{both-false, any-none}
+use Rattle.memory.proofs.Any.{both-false, both-true, any-none}
 use Rattle.refusals.specs.Tests.{outside}
 use Rattle.refusals.specs.Conditions.{Conditions, otherwise, test, Returns, Exactly, Outside, Some}
 
@@ -41,8 +41,26 @@ row {b} {P} {k} {rest} {cs} d x = go b refl
     go true e = rw e (applies (d .yes e))
     go false e = rw e (passes (d .no e) x)
 
+-- The answer, told by another name.
+pub answered : {cs : Conditions} {number answer : ℕ} → number ≡ answer → Exactly cs answer → Exactly cs number
+answered e x = rw e x
+
 pub none : Exactly otherwise 0
 none = record { returned = refl; only = λ n e. sym e }
+
+-- A condition said otherwise.
+pub decides-as : {b : Bool} {P Q : Type 0} → (P → Q) → (Q → P) → Decides b P → Decides b Q
+decides-as to from d = record { yes = λ e. to (d .yes e); no = λ e q. d .no e (from q) }
+
+-- Two tests that decide the same answer alike.
+pub same-decision : {b c : Bool} {P : Type 0} → Decides b P → Decides c P → b ≡ c
+same-decision {b} {c} d f = go b c refl refl
+  where
+    go : (x y : Bool) → b ≡ x → c ≡ y → b ≡ c
+    go true true e g = e ∙ sym g
+    go true false e g = absurd (f .no g (d .yes e))
+    go false true e g = absurd (d .no e (f .yes g))
+    go false false e g = e ∙ sym g
 
 -- What each kind of test decides.
 pub decides-differ : (x y : ℕ) → Decides (not (eqb x y)) (x ≡ y → ⊥)
@@ -57,7 +75,14 @@ decides-least x y = record { yes = leb-true x y; no = λ e h. let l = leb-false 
 pub decides-above : (x y : ℕ) → Decides (ltb x y) (x < y)
 decides-above x y = record { yes = ltb-true x y; no = λ e h. let l = ltb-false x y e in omega arith }
 
--- Two tests of one row.
+-- A test that is two, and two tests of one row.
+pub both : {b c : Bool} {P Q : Type 0} → Decides b P → Decides c Q → Decides (b && c) (P × Q)
+both {b} {c} {P} {Q} d f = record { yes = λ e. (d .yes (both-true b c e .0), f .yes (both-true b c e .1)); no = λ e (p, q). no b refl e p q }
+  where
+    no : (x : Bool) → b ≡ x → (x && c) ≡ false → P → Q → ⊥
+    no true g e p q = f .no e q
+    no false g e p q = d .no g p
+
 pub either : {b c : Bool} {P Q : Type 0} → Decides b P → Decides c Q → Decides (b || c) (P ⊎ Q)
 either {b} {c} {P} {Q} d f = record { yes = λ e. yes b refl e; no = λ e o. no e o }
   where

@@ -86,6 +86,11 @@ first-before [] us some = absurd (some refl)
 first-before ((true, k) ∷ ts) us some = refl
 first-before ((false, k) ∷ ts) us some = first-before ts us some
 
+-- A table that found nothing leaves the answer to the further tests at its end.
+pub first-after : (ts us : List (Bool × ℕ)) → Clear ts → first 0 (ts ++ us) ≡ first 0 us
+first-after [] us c = refl
+first-after (t ∷ ts) us (e, c) = rw e (first-after ts us c)
+
 -- Each number of the table is at most so much, and so is its answer.
 abbrev pub bounded : ℕ → List (Bool × ℕ) → Bool
 bounded most [] = true

@@ -27,6 +27,7 @@ pub enum Reason {
     RoadForm,
     RoadRange,
     RoadCount,
+    RangeInverted,
 }
 
 // What a table of tests gives: none of them applies, or the reason of the first that does.
@@ -63,5 +64,6 @@ pub fn number(reason: Reason) -> u32
         Reason::RoadForm => 21,
         Reason::RoadRange => 22,
         Reason::RoadCount => 23,
+        Reason::RangeInverted => 24,
     }
 }

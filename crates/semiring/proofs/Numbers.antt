@@ -4,6 +4,7 @@ use native.Mathlib.Omega.{arith}
 use mathlib.Core.Path.{_≡_, refl}
 use mathlib.Core.Logic.{_⊎_, inl, inr}
 use mathlib.Core.List.{List}
+use mathlib.Core.Bool.{Bool}
 use lib.Dec.{ltb}
 use Rattle.refusals.specs.Conditions.{Some, Words16}
 use Rattle.refusals.proofs.Conditions.{Decides, decides-above, decides-any}
@@ -41,6 +42,14 @@ named-or-above zero = inl (Reach, refl, refl)
 named-or-above (suc zero) = inl (Distance, refl, refl)
 named-or-above (suc (suc zero)) = inl (Steepest, refl, refl)
 named-or-above (suc (suc (suc n))) = inr (refl, omega arith)
+
+-- A condition over the algebra that the number names.
+pub of-known : (algebra : ℕ) {a : Algebra} {b : Bool} (P : Algebra → Type 0) → namedOf algebra ≡ Known a → Decides b (P a)
+    → Decides b ((x : Algebra) × (namedOf algebra ≡ Known x) × P x)
+of-known algebra {a} P known d = record {
+  yes = λ e. (a, known, d .yes e);
+  no = λ e (x, named, p). let k : x ≡ a = cc in d .no e (rw k at p);
+}
 
 pub known-below : (algebra : ℕ) (a : Algebra) → algebra ≡ numberOf a → 2 < algebra → ⊥
 known-below algebra Reach e h = omega arith

@@ -2,7 +2,7 @@
 use Prim.Native.Nat.{ℕ, _+_, _≤_, min, max}
 use mathlib.Core.Path.{_≡_}
 use mathlib.Core.Logic.{_≢_}
-use mathlib.Core.Bool.{cond, _||_}
+use mathlib.Core.Bool.{Bool, cond, not, _&&_, _||_}
 use lib.Dec.{eqb}
 use Rattle.semiring.specs.declared.Algebra.{Algebra}
 use Rattle.semiring.specs.declared.Algebra.the-variants.{Reach, Distance, Steepest}
@@ -46,3 +46,7 @@ productOf Steepest x y = max x y
 -- "A word betters another if it differs from it and is their sum."
 abbrev pub Betters : Algebra → ℕ → ℕ → Type 0
 Betters a x y = (x ≢ y) × (x ≡ sumOf a x y)
+
+-- The same as a test.
+abbrev pub betters : Algebra → ℕ → ℕ → Bool
+betters a x y = not (eqb x y) && eqb x (sumOf a x y)

@@ -3,19 +3,17 @@ use Prim.Native.Nat.{ℕ}
 use mathlib.Core.Path.{_≡_, sym, ap, _∙_}
 use mathlib.Core.Logic.{inl, inr}
 use mathlib.Core.List.{List}
-use mathlib.Core.Bool.{Bool, true, false, not, true≢false}
+use mathlib.Core.Bool.{true, false, not, true≢false}
 use lib.ListN.{length}
 use borrow.Author.Tests.{not-true, not-false}
 use Rattle.memory.specs.Lists.{same}
 use Rattle.memory.proofs.Same.{same-refl, same-equal}
-use Rattle.refusals.specs.Conditions.{Conditions, Exactly}
-use Rattle.refusals.proofs.Conditions.{Decides, row, none, decides-differ, decides-equal, decides-least}
+use Rattle.refusals.specs.Conditions.{Exactly}
+use Rattle.refusals.proofs.Conditions.{Decides, row, none, answered, decides-differ, decides-equal, decides-least}
 use Rattle.semiring.specs.Algebra.{noneOf}
 use Rattle.semiring.specs.Named.{namedOf}
-use Rattle.semiring.specs.declared.Algebra.{Algebra}
 use Rattle.semiring.specs.declared.Named.{Named}
-use Rattle.semiring.specs.declared.Named.the-variants.{Known}
-use Rattle.semiring.proofs.Numbers.{Names, named-or-above}
+use Rattle.semiring.proofs.Numbers.{Names, named-or-above, of-known}
 use Rattle.closure.specs.Table.{entries}
 use Rattle.closure.specs.Elimination.{eliminated}
 use Rattle.closure.proofs.Refusals.{elimination-rows, elimination-unknown}
@@ -27,17 +25,6 @@ decides-same x y = record {
   yes = λ e f. true≢false (sym (same-refl x) ∙ ap (same x) f ∙ not-true (same x y) e);
   no = λ e f. f (same-equal x y (not-false (same x y) e));
 }
-
--- A condition over the algebra that the number names.
-of-known : (algebra : ℕ) {a : Algebra} {b : Bool} (P : Algebra → Type 0) → namedOf algebra ≡ Known a → Decides b (P a)
-    → Decides b ((x : Algebra) × (namedOf algebra ≡ Known x) × P x)
-of-known algebra {a} P known d = record {
-  yes = λ e. (a, known, d .yes e);
-  no = λ e (x, named, p). let k : x ≡ a = cc in d .no e (rw k at p);
-}
-
-answered : {cs : Conditions} {number answer : ℕ} → number ≡ answer → Exactly cs answer → Exactly cs number
-answered e x = rw e x
 
 pub way-refusals : Way-refusals
 unfolding wayConditions

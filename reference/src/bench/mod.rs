@@ -2,6 +2,7 @@
 
 pub mod array_times;
 pub mod program_call;
+pub mod range_times;
 pub mod road_times;
 pub mod row_sheet;
 pub mod sheet;

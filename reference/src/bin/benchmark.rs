@@ -1,19 +1,21 @@
-//! Times the proved elimination, array, bench, ways and reader of road files, through their C calls, beside Rust: the
-//! same input, one run, one table. A benchmark, and no test.
+//! Times the proved elimination, ranges, array, bench, ways and reader of road files, through their C calls, beside Rust:
+//! the same input, one run, one table. A benchmark, and no test.
 //!
 //! "rust" is the same algorithm in safe Rust; "other" is SSE2 by hand for the elimination, and the plain model of the
-//! array, cell by cell, for the bench. For road files "rust" goes line by line, "other" is one walk over the bytes. No
-//! buffer is cleared between rounds; each contender writes its whole result.
+//! array, cell by cell, for the bench. For road files "rust" goes line by line, "other" is one walk over the bytes. For
+//! ranges "rust" is one walk over the links and two eliminations, "other" is one elimination of ours. No buffer is cleared
+//! between rounds; each contender writes its whole result.
 //!
 //! An array has 16 jobs of its own order or, where the row says so, of one point, which leaves little to read. It is
 //! started once a round and run to its end, in one run or in runs of one tick each: every run of ours makes its tests,
 //! and of jobs in reach test 5 reads all weights. The row-wise array in Rust makes no test. The jobs of a mixed list go
 //! through the three algebras in turn.
 //!
-//! Where sizes are named, `benchmark SIZE..`, the elimination alone is timed, at those.
+//! Where sizes are named, `benchmark SIZE..`, the elimination and ranges alone are timed, at those.
 
 use reference::algebra::Algebra;
 use reference::bench::array_times::array_times;
+use reference::bench::range_times::range_times;
 use reference::bench::road_times::{road_files, road_times};
 use reference::bench::row_sheet::row_sheet;
 use reference::bench::sheet::sheet;
@@ -39,6 +41,7 @@ use std::hint::black_box;
 
 const SEED: u64 = 0x5EED_0F0A_7AB1_E002;
 const ELIMINATION_SIZES: [usize; 7] = [2, 4, 8, 12, 16, 32, MAX_SIZE];
+const RANGE_SIZES: [usize; 2] = [16, MAX_SIZE];
 const WAY_SIZES: [usize; 3] = [8, 32, MAX_SIZE];
 /// At least; one of the largest table takes seconds.
 const WAY_ROUNDS: usize = 2;
@@ -64,14 +67,19 @@ fn main() {
         "what", "size", "algebra", "ours", "rust", "other", "ours/rust", "ours/other"
     );
     let named = sizes_named();
-    let sizes = if named.is_empty() {
-        ELIMINATION_SIZES.to_vec()
-    } else {
-        named.clone()
+    let sizes = |usual: &[usize]| match named.is_empty() {
+        true => usual.to_vec(),
+        false => named.clone(),
     };
-    for size in sizes {
+    for size in sizes(&ELIMINATION_SIZES) {
         for algebra in Algebra::ALL {
             eliminations(&mut random, algebra, size);
+        }
+    }
+    for size in sizes(&RANGE_SIZES) {
+        for algebra in Algebra::ALL {
+            let times = range_times(&mut random, algebra, size);
+            row("range", size, algebra.name(), &times, "ns a range");
         }
     }
     if !named.is_empty() {

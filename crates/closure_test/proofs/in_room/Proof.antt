@@ -1,7 +1,6 @@
--- `in_room` lays the links out, closes them and compares.
+-- `in_room` has the links eliminated, and compares.
 use borrow.Author.Needs.{needs}
-use Rattle.memory.proofs.Geometry.{cells-room}
-use Rattle.closure_test.proofs.Compared.{to-lay-out, compared}
+use Rattle.closure_test.proofs.Compared.{ready, compared}
 use Rattle.closure_test.proofs.in_room.Statement.{statement}
 use Rattle.closure_test.proofs.in_room.Tie as tie
 
@@ -13,9 +12,7 @@ pub in-room-spec : {M : Type 1} → statement M
 in-room-spec =
     tie.close
     (tie.spec
-    (λ c. search cells-room)
-    (λ c κs. search to-lay-out)
-    (λ c κs. search needs)
+    (λ c κs. search ready)
     (λ c κs. search needs)
     (λ c. search needs)
     answer)

@@ -1,6 +1,6 @@
--- `paths::eliminate` meets its contract: it turns back as its checks do, and else the table is laid out and closed.
+-- `paths::eliminate` meets its contract: it turns back as its checks do, and else the table is closed.
 use borrow.Author.Needs.{needs}
-use Rattle.paths.proofs.Refusals.{refused, cells-fit, to-lay-out, to-close, accepted}
+use Rattle.paths.proofs.Refusals.{refused, ready, accepted}
 use Rattle.paths.proofs.eliminate.Statement.{statement}
 use Rattle.paths.proofs.eliminate.Tie as tie
 
@@ -19,8 +19,6 @@ eliminate-spec =
     (λ c. search needs)
     (λ c. search refused)
     -- the elimination
-    (λ c. search cells-fit)
-    (λ c κs. search to-lay-out)
-    (λ c κs. search to-close)
+    (λ c κs. search ready)
     (λ c. search needs)
     closes)
