@@ -11,7 +11,7 @@ use state_header::{HeaderRead, read_header};
 use state_ticks::proceed;
 
 // What a call of run answers: the ticks made, or why it turned back.
-#[derive(Drop)]
+#[derive(Clone, Copy)]
 pub enum RunAnswer {
     Made(u16),
     Refused(Reason),

@@ -1,5 +1,8 @@
 // The bench: a job text on standard input, its sheet on standard output. A read or a write that fails is told on standard
 // error; after a failed read nothing is printed.
+
+#![tactic(auto)]
+
 ghost use Rattle.std.specs.Prelude.{◌≡◌, length};
 ghost use Rattle.sheet_form.specs.Sheet.{sheet_of};
 ghost use Rattle.bench.specs.Printed.{ToPrint, InRoom};

@@ -1,4 +1,7 @@
 // Tables of words in bytes, two a word, low byte first, as a host in C lends them: their test, their layout and their words.
+
+#![tactic(auto)]
+
 mod bytes;
 mod layout;
 mod test;

@@ -1,4 +1,7 @@
 // The bench cards of document 01, run: one line for each.
+
+#![tactic(auto)]
+
 mod array_cards;
 mod limit_cards;
 mod listing_card;

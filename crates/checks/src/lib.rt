@@ -1,11 +1,14 @@
 // The elimination's checks, which every call on words that is lent a table of links makes first.
+
+#![tactic(auto)]
+
 ghost use Rattle.checks.specs.inner.Checks.{Checks};
 
 use refusals::Reason;
 use semiring::{Algebra, Named, from_number, has_word_above};
 
 // What the checks found: nothing, and the algebra; or the first that applies.
-#[derive(Drop)]
+#[derive(Clone, Copy)]
 pub enum Checked {
     Fit(Algebra),
     Refused(Reason),

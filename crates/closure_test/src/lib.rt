@@ -1,5 +1,8 @@
 // Whether a table is the elimination of another, for the calls that are lent both. The elimination lies in an array of this call,
 // the smaller of two that holds it, since an array is cleared when it is made.
+
+#![tactic(auto)]
+
 ghost use Rattle.std.specs.Prelude.{◌≡◌, length};
 ghost use Rattle.memory.specs.Lists.{same};
 ghost use Rattle.closure.specs.Elimination.{eliminated};

@@ -1,4 +1,7 @@
 // The elimination: a table laid out with its diagonal set, then closed in place, two points at a time.
+
+#![tactic(auto)]
+
 ghost use Rattle.std.specs.Prelude.{◌*◌, ◌≡◌};
 ghost use Rattle.closure.specs.Elimination.{eliminated};
 ghost use Rattle.table_layout.specs.LaidOut.{ToLayOut};

@@ -1,4 +1,7 @@
 // What leaves the array on one tick, written to the results.
+
+#![tactic(auto)]
+
 ghost use Rattle.std.specs.Prelude.{◌≡◌, ℕ, ◌+◌, ◌-◌, ◌*◌, List, length};
 ghost use Rattle.systolic.specs.Tick.{emitted_rows};
 ghost use Rattle.job_list.specs.Jobs.{jobs_of};

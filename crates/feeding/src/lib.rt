@@ -1,4 +1,7 @@
 // What comes in at the edges: a job's entries in its first pass, the array's own words after that.
+
+#![tactic(auto)]
+
 ghost use Rattle.std.specs.Prelude.{◌≡◌, ◌*◌, length};
 ghost use Rattle.feeding.specs.Filled.{Padded, Feeding, Fed, Filling, Filled};
 

@@ -1,4 +1,7 @@
 // All of standard input, as far as there is room, and whether that is all of it.
+
+#![tactic(auto)]
+
 ghost use Rattle.std.specs.Prelude.{length};
 ghost use Rattle.input.specs.Reads.{ReadInto};
 ghost use Rattle.input.specs.inner.Told.{Bounded, AnswerTold, Answered, Within, TurnTold};
@@ -6,7 +9,7 @@ ghost use Rattle.input.specs.inner.Told.{Bounded, AnswerTold, Answered, Within, 
 use libc::{EINTR, STDIN_FILENO};
 
 // What reading came to.
-#[derive(Drop)]
+#[derive(Clone, Copy)]
 pub enum Input {
     // the input ended after so many bytes, with room left
     Ended(usize),
@@ -17,14 +20,14 @@ pub enum Input {
 }
 
 // What one read answered.
-#[derive(Drop)]
+#[derive(Clone, Copy)]
 pub enum Answer {
     Bytes(usize),
     Unread,
 }
 
 // What follows it: the place of the next byte, or that this was the last read.
-#[derive(Drop)]
+#[derive(Clone, Copy)]
 pub enum Turn {
     On(usize),
     Done(Input),

@@ -1,4 +1,7 @@
 // Two tables closed at once, of the best and the worst word for each link.
+
+#![tactic(auto)]
+
 ghost use Rattle.std.specs.Prelude.{◌≡◌};
 ghost use Rattle.ranges.specs.Given.{RangeGiven};
 ghost use Rattle.interval.specs.RangeAnswer.{range_number};
@@ -12,7 +15,7 @@ use inversion::is_inverted;
 use refusals::{Reason, number};
 
 // What a call answers: that it closed both tables, or why it turned back.
-#[derive(Drop)]
+#[derive(Clone, Copy)]
 pub enum RangeAnswer {
     Done,
     Refused(Reason),

@@ -10,7 +10,7 @@ use crate::tokens::{Token, token_of};
 use text::{Part, equal, next_part};
 
 // What the first part of a line announces.
-#[derive(Drop)]
+#[derive(Clone, Copy)]
 pub enum Head {
     Comment,
     List,
@@ -22,7 +22,7 @@ pub enum Head {
 }
 
 // What a line says. The words of a row are the parts from `from` on.
-#[derive(Drop)]
+#[derive(Clone, Copy)]
 pub enum Line {
     List { order: Token },
     Job { size: Token, algebra: Token },
@@ -34,7 +34,7 @@ pub enum Line {
 }
 
 // A word of a row, and the part after it.
-#[derive(Drop)]
+#[derive(Clone, Copy)]
 pub struct Word {
     pub token: Token,
     pub next: Part,

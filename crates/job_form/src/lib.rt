@@ -1,4 +1,7 @@
 // What a line of a job text says: what each of its parts stands for, the form that they make, and the words of a row.
+
+#![tactic(auto)]
+
 mod buffers;
 mod forms;
 mod rows;

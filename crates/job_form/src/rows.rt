@@ -12,7 +12,7 @@ use semiring::{Algebra, none, top};
 use text::next_part;
 
 // What was found among the words of a row.
-#[derive(Drop)]
+#[derive(Clone, Copy)]
 pub struct Tally {
     // A part that is no word.
     pub other: bool,
@@ -24,7 +24,7 @@ pub struct Tally {
 }
 
 // A row that was read, and the place of the word after it.
-#[derive(Drop)]
+#[derive(Clone, Copy)]
 pub struct Row {
     pub tally: Tally,
     pub at: usize,

@@ -5,7 +5,7 @@ ghost use Rattle.job_form.specs.Tokens.{numeral_token, name, token_of, is_numera
 use semiring::Algebra;
 use text::{Numeral, all_digits, equal, read_numeral};
 
-#[derive(Drop)]
+#[derive(Clone, Copy)]
 pub enum Token {
     // A numeral that is a 16-bit number.
     Number(u16),

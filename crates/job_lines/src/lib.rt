@@ -1,4 +1,7 @@
 // What one line does to the state and the buffers.
+
+#![tactic(auto)]
+
 ghost use Rattle.job_form.specs.Forms.{unknown};
 ghost use Rattle.job_steps.specs.inner.Stepped.{Stepped, Advanced};
 

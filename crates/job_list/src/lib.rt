@@ -1,4 +1,7 @@
 // A list of jobs: their algebras and sizes, and where each one's words begin.
+
+#![tactic(auto)]
+
 ghost use Rattle.std.specs.Prelude.{◌≡◌, ◌≤◌, length};
 ghost use Rattle.job_list.specs.Jobs.{offset};
 ghost use Rattle.job_list.specs.Fits.{any_outside, Small};

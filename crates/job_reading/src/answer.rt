@@ -6,14 +6,14 @@ ghost use Rattle.job_reading.specs.Reading.{refusal, turned, answered};
 use refusals::Reason;
 
 // Why and on which line the reader turned back.
-#[derive(Drop)]
+#[derive(Clone, Copy)]
 pub struct Refusal {
     pub reason: Reason,
     pub line: u32,
 }
 
 // The list that was read, or the refusal.
-#[derive(Drop)]
+#[derive(Clone, Copy)]
 pub enum Read {
     List { order: u16, jobs: u16 },
     Refused(Refusal),

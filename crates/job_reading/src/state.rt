@@ -7,7 +7,7 @@ use refusals::{Reason, Tested};
 use semiring::Algebra;
 
 // The form that is due.
-#[derive(Drop)]
+#[derive(Clone, Copy)]
 pub enum Due {
     // `(list`
     List,
@@ -21,7 +21,7 @@ pub enum Due {
     Nothing,
 }
 
-#[derive(Drop)]
+#[derive(Clone, Copy)]
 pub struct State {
     pub due: Due,
     pub order: u16,
@@ -35,7 +35,7 @@ pub struct State {
 }
 
 // What a line leads to: the state after it, or why it is refused.
-#[derive(Drop)]
+#[derive(Clone, Copy)]
 pub enum Next {
     On(State),
     Stop(Reason),

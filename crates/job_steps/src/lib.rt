@@ -1,4 +1,7 @@
 // What the lines of each form do to the state of a reading.
+
+#![tactic(auto)]
+
 mod jobs;
 mod lists;
 mod rows;

@@ -1,4 +1,7 @@
 // The reader of job texts: line by line to an order, the jobs' algebras, their sizes and their weights.
+
+#![tactic(auto)]
+
 ghost use Rattle.std.specs.Prelude.{◌≡◌, ◌≤◌, length};
 ghost use Rattle.text.specs.Pieces.{lines};
 ghost use Rattle.job_reading.specs.Steps.{go, start};

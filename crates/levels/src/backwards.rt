@@ -6,7 +6,7 @@ ghost use Rattle.levels.specs.inner.Search.{Seen, Visited, Met, Linked, Searched
 use semiring::{Algebra, product};
 
 // What a search goes by: the algebra, the number of points and the point that the ways end at.
-#[derive(Drop)]
+#[derive(Clone, Copy)]
 pub struct Target {
     pub algebra: Algebra,
     pub size: usize,

@@ -1,4 +1,7 @@
 // Lent memory: the walks over words that every crate above uses, and under specs/ and proofs/ the laws of lists of words.
+
+#![tactic(auto)]
+
 ghost use Rattle.std.specs.Prelude.{◌≡◌, ◌≤◌, min, length, get_or, replicate};
 ghost use Rattle.memory.specs.Lists.{same};
 ghost use Rattle.memory.specs.Walked.{Walked};

@@ -1,4 +1,7 @@
 // The calls for other languages, in one archive.
+
+#![tactic(auto)]
+
 mod array_calls;
 mod interval_calls;
 mod paths_calls;

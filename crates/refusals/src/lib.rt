@@ -1,9 +1,12 @@
 // Why a call turns back: every reason with its number. Under specs/, tables of tests, of which the first that applies answers.
+
+#![tactic(auto)]
+
 ghost use Rattle.std.specs.Prelude.{◌≡◌};
 ghost use Rattle.refusals.specs.Reason.{reason_number};
 
 // In the order of their numbers. Each call's answer holds one by value.
-#[derive(Drop)]
+#[derive(Clone, Copy)]
 pub enum Reason {
     AlgebraUnknown,
     SizeOutside,
@@ -34,7 +37,7 @@ pub enum Reason {
 }
 
 // What a table of tests gives: none of them applies, or the reason of the first that does.
-#[derive(Drop)]
+#[derive(Clone, Copy)]
 pub enum Tested {
     Fit,
     Unfit(Reason),

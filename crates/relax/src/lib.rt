@@ -1,4 +1,7 @@
 // One row of a table through one point or through two, or two rows at once: the loops whose bodies run in the order of n³ times.
+
+#![tactic(auto)]
+
 ghost use Rattle.std.specs.Prelude.{◌≡◌, ◌+◌, ◌*◌, ◌<◌, ◌≤◌, length};
 ghost use Rattle.relax.specs.Relax.{relaxed, relaxed_twice, PairWalked};
 ghost use Rattle.memory.specs.Walked.{Walked};

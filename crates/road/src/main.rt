@@ -1,5 +1,8 @@
 // A road file on standard input, its closed table on standard output. A read or a write that fails and a file longer than the
 // buffer are told on standard error; after a failed read and for a longer file nothing is printed.
+
+#![tactic(auto)]
+
 ghost use Rattle.std.specs.Prelude.{◌≡◌, length};
 ghost use Rattle.road_sheet.specs.Sheet.{road_sheet_of};
 ghost use Rattle.road.specs.Printed.{ToPrint, ToTell, InRoom};

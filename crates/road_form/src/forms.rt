@@ -7,14 +7,14 @@ use crate::numbers::{Taken, next_number};
 use text::{equal, next_part, until};
 
 // `a FROM TO LENGTH`
-#[derive(Drop)]
+#[derive(Clone, Copy)]
 pub struct Arc {
     pub from: u64,
     pub to: u64,
     pub length: u64,
 }
 
-#[derive(Drop)]
+#[derive(Clone, Copy)]
 pub enum Line {
     // a line that begins with `c`
     Comment,
@@ -25,7 +25,7 @@ pub enum Line {
 }
 
 // What a line says, and where it ends: at its LF, or with the text.
-#[derive(Drop)]
+#[derive(Clone, Copy)]
 pub struct Said {
     pub line: Line,
     pub end: usize,

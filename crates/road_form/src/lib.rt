@@ -1,4 +1,7 @@
 // One line of a road file: what it says.
+
+#![tactic(auto)]
+
 mod forms;
 mod numbers;
 

@@ -4,7 +4,7 @@ ghost use Rattle.road_form.specs.inner.Numbers.{TakenFrom, Ended};
 use text::unspaced;
 
 // A part that is a numeral, by its number and the place after it, or that there is none.
-#[derive(Drop)]
+#[derive(Clone, Copy)]
 pub enum Taken {
     Number { value: u64, end: usize },
     Other,

@@ -1,4 +1,7 @@
 // The closed table of a road file as text: a row a line, or a refusal.
+
+#![tactic(auto)]
+
 ghost use Rattle.std.specs.Prelude.{◌++◌, ◌≡◌, min, length, drop};
 ghost use Rattle.semiring.specs.declared.Algebra.TheVariants.{Distance};
 ghost use Rattle.closure.specs.Elimination.{eliminated};

@@ -1,4 +1,7 @@
 // The distance table of a road file's arcs, in a lent buffer.
+
+#![tactic(auto)]
+
 ghost use Rattle.std.specs.Prelude.{◌≡◌, ◌≤◌, length};
 ghost use Rattle.memory.specs.Walked.{Walked};
 ghost use Rattle.semiring.specs.declared.Algebra.TheVariants.{Distance as distance};

@@ -1,7 +1,7 @@
 // What reading a road file answers: POINTS, or why it is refused.
 use refusals::Reason;
 
-#[derive(Drop)]
+#[derive(Clone, Copy)]
 pub enum RoadAnswer {
     Points(usize),
     Refused(Reason),

@@ -1,4 +1,7 @@
 // The reader of road files: the text form of the ninth DIMACS shortest path challenge, read into a distance table.
+
+#![tactic(auto)]
+
 ghost use Rattle.std.specs.Prelude.{◌≡◌, length};
 ghost use Rattle.road_table.specs.inner.Held.{Cleared};
 ghost use Rattle.road_text.specs.Steps.{start};

@@ -1,7 +1,7 @@
 // What has been read of a road file, its table apart.
 use refusals::Reason;
 
-#[derive(Drop)]
+#[derive(Clone, Copy)]
 pub struct Progress {
     // 0 before the `p` line
     pub points: usize,
@@ -12,7 +12,7 @@ pub struct Progress {
 }
 
 // What a line leads to, or why it is refused.
-#[derive(Drop)]
+#[derive(Clone, Copy)]
 pub enum Next {
     On(Progress),
     Stop(Reason),

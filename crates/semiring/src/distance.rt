@@ -10,7 +10,7 @@ fn held_sum(x: u16, y: u16) -> u16
     if x < 65535 - y { x + y } else { 65535 }
 }
 
-#[derive(Drop)]
+#[derive(Clone, Copy)]
 pub struct Distance {}
 
 impl Distance {

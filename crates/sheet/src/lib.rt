@@ -1,4 +1,7 @@
 // The printed sheet of a job text: a refusal, or the jobs' words in the order in which they leave the array.
+
+#![tactic(auto)]
+
 ghost use Rattle.std.specs.Prelude.{◌++◌, ◌≡◌, min, length, drop};
 ghost use Rattle.text.specs.Page.{overwritten};
 ghost use Rattle.text.specs.inner.Put.{Put};

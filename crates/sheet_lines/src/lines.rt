@@ -9,7 +9,7 @@ use semiring::{Algebra, Distance, Steepest};
 use text::{put_number, put_text, put_unless};
 
 // An entry of a job, the job's size and the tick on which the entry leaves.
-#[derive(Drop)]
+#[derive(Clone, Copy)]
 pub struct Entry {
     pub job: u32,
     pub row: u32,

@@ -1,4 +1,7 @@
 // The sheet of a list that was read: its jobs started, run once to the end, and printed.
+
+#![tactic(auto)]
+
 ghost use Rattle.std.specs.Prelude.{◌≡◌, length};
 ghost use Rattle.job_list.specs.Fits.{ListAccepted};
 ghost use Rattle.job_list.specs.Jobs.{jobs_of};

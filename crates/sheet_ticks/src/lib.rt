@@ -1,4 +1,7 @@
 // The lines of a sheet tick by tick: the entries that leave, row by row.
+
+#![tactic(auto)]
+
 mod tick_lines;
 
 pub use tick_lines::put_ticks;

@@ -9,7 +9,7 @@ use semiring::Algebra;
 use sheet_lines::{Entry, put_entry};
 
 // On a tick those entries of one job leave whose row and column have one sum.
-#[derive(Drop)]
+#[derive(Clone, Copy)]
 pub struct Leaving {
     pub job: usize,
     pub size: usize,

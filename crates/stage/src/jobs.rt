@@ -8,7 +8,7 @@ use semiring::Algebra;
 use turns::live;
 
 // A job's algebra and size, and its part, which begins where the earlier jobs' end.
-#[derive(Drop)]
+#[derive(Clone, Copy)]
 pub struct Job {
     pub algebra: Algebra,
     pub size: usize,

@@ -8,7 +8,7 @@ use turns::Turn;
 
 // The turn of cell (0, 0), the job that it is on, and those of the cells a pass and two passes behind it. No cell is further behind, so there
 // are no others.
-#[derive(Drop)]
+#[derive(Clone, Copy)]
 pub struct Stage {
     pub tick: usize,
     pub head: Turn,

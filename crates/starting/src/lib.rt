@@ -1,4 +1,7 @@
 // Start: a state laid out for a list of jobs.
+
+#![tactic(auto)]
+
 ghost use Rattle.std.specs.Prelude.{◌≡◌, length};
 ghost use Rattle.systolic.specs.State.{state_words, state_length};
 ghost use Rattle.systolic.specs.Start.{zero_planes};
@@ -11,7 +14,7 @@ use refusals::{Reason, number};
 use state_header::{Header, store_header};
 
 // What a call of start answers: that the state is laid out, or why it turned back.
-#[derive(Drop)]
+#[derive(Clone, Copy)]
 pub enum StartAnswer {
     Done,
     Refused(Reason),

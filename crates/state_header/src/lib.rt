@@ -1,10 +1,13 @@
 // The first four words of a state. The second one is 0.
+
+#![tactic(auto)]
+
 ghost use Rattle.std.specs.Prelude.{◌≡◌, ◌+◌, ◌-◌, ◌≤◌, length};
 ghost use Rattle.job_list.specs.Fits.{Ranged};
 ghost use Rattle.systolic.specs.State.{total};
 ghost use Rattle.state_header.specs.inner.Header.{headed, Told};
 
-#[derive(Drop)]
+#[derive(Clone, Copy)]
 pub struct Header {
     pub order: u16,
     pub count: u16,
@@ -55,7 +58,7 @@ pub fn store_header(header: Header, state: &mut [u16])
 }
 
 // What the words of a state give: its header, or that it is no state.
-#[derive(Drop)]
+#[derive(Clone, Copy)]
 pub enum HeaderRead {
     Fit(Header),
     Unfit,

@@ -1,4 +1,7 @@
 // Ticks of a state that runs, in its own planes.
+
+#![tactic(auto)]
+
 ghost use Rattle.state_ticks.specs.inner.Runnable.{Runnable, RunLeft};
 
 use state_header::{Header, store_header};

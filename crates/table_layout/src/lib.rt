@@ -1,4 +1,7 @@
 // The table with its diagonal set, laid out in one walk.
+
+#![tactic(auto)]
+
 ghost use Rattle.std.specs.Prelude.{◌≡◌};
 ghost use Rattle.table_layout.specs.LaidOut.{laid_out, ToLayOut};
 

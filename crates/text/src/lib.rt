@@ -1,4 +1,7 @@
 // Bytes read and written: lines and parts with their places, decimal numerals, a lent page.
+
+#![tactic(auto)]
+
 mod bytes;
 mod numeral;
 mod page;

@@ -4,7 +4,7 @@ ghost use Rattle.text.specs.inner.Scan.{Found};
 use crate::bytes::{unspaced, until};
 
 // Where a part stands in its line. An empty one says that no part follows.
-#[derive(Drop)]
+#[derive(Clone, Copy)]
 pub struct Part {
     pub start: usize,
     pub end: usize,

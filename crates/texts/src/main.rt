@@ -1,5 +1,8 @@
 // Border texts through the reader: one line for each, held to the stored output. On standard input a line with a label stands
 // before each text, and a form feed after it.
+
+#![tactic(auto)]
+
 mod cases;
 mod limits;
 mod print;

@@ -38,7 +38,7 @@ fn tick(
 }
 
 // The ticks from ≤ t < to.
-#[derive(Drop)]
+#[derive(Clone, Copy)]
 pub struct Ticks {
     pub from: usize,
     pub to: usize,

@@ -1,4 +1,7 @@
 // A way traced back from a closed table.
+
+#![tactic(auto)]
+
 ghost use Rattle.std.specs.Prelude.{◌≡◌};
 ghost use Rattle.ways.specs.Given.{WayGiven};
 ghost use Rattle.traceback.specs.WayAnswer.{way_number, way_length};
@@ -10,7 +13,7 @@ use refusals::{Reason, number};
 use semiring::none;
 
 // What a call answers: how many points the way has, or why it turned back.
-#[derive(Drop)]
+#[derive(Clone, Copy)]
 pub enum WayAnswer {
     Points(usize),
     Refused(Reason),

@@ -6,7 +6,7 @@ ghost use Rattle.turns.specs.Spans.{Banded};
 use crate::turn::Turn;
 
 // Cell x of them is at point `last - x`.
-#[derive(Drop)]
+#[derive(Clone, Copy)]
 pub struct Band {
     pub from: usize,
     pub to: usize,

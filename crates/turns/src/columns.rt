@@ -7,7 +7,7 @@ ghost use Rattle.turns.specs.Spans.{Spans, Parted};
 use crate::passes::{live, sums};
 use crate::turn::Turn;
 
-#[derive(Drop)]
+#[derive(Clone, Copy)]
 pub struct Columns {
     pub from: usize,
     pub to: usize,

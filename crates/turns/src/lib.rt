@@ -1,4 +1,7 @@
 // Turns of the cells: the pass that a cell is in and its point in it, and which cells of a row or an edge are in which pass.
+
+#![tactic(auto)]
+
 mod band;
 mod columns;
 mod passes;

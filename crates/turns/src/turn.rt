@@ -2,7 +2,7 @@
 ghost use Rattle.std.specs.Prelude.{◌+◌, ◌-◌, ◌*◌, ◌≤◌, ◌<◌};
 ghost use Rattle.turns.specs.Turn.{At};
 
-#[derive(Drop)]
+#[derive(Clone, Copy)]
 pub struct Turn {
     pub pass: usize,
     pub point: usize,

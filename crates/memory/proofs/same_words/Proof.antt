@@ -12,7 +12,7 @@ same_words_spec =
     (tie.spec
     (λ words others alike₀ p₀ alike p. Comparing words others p alike)
     (λ words others alike₀ p₀ alike p. length words - p)
-    (λ c. search (longer, c.if1.true))
+    (λ c. search (longer, c.if-words-others.true))
     (λ c. search compare_begins)
     -- a turn
     (λ c. search rules)
