@@ -20,11 +20,11 @@ check_spec =
     (λ c. search (refused, tests))
     (λ c. search (refused, tests))
     -- the links
-    (λ c. omega (arith, square_fits c.if2.false))
-    (λ c. search (refused, tests, c.if3.true))
+    (λ c. omega (arith, square_fits c.if-size-gt128.false))
+    (λ c. search (refused, tests, c.if-links-size.true))
     -- the second table
     (λ c. search rules)
-    (λ c. search (refused, tests, c.if4.true))
+    (λ c. search (refused, tests, c.if-table-size.true))
     -- the words
     (λ c κs. search rules)
     (λ c. search (refused, tests) depth 9)

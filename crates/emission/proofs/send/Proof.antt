@@ -6,10 +6,10 @@ use Rattle.emission.proofs.Sent.{SentTo, send_begins, send_point, area_room, row
 use Rattle.emission.proofs.send.Statement.{statement}
 use Rattle.emission.proofs.send.Tie as tie
 
-abbrev invariant-loop : tie.invariant-loop
+abbrev invariant-loop : tie.invariant-loop-i
 invariant-loop n size band planes part₀ i₀ part i = SentTo n size band planes part₀ i part
 
-abbrev decreases-loop : tie.decreases-loop
+abbrev decreases-loop : tie.decreases-loop-i
 decreases-loop n size band planes part₀ i₀ part i = band.to - i
 
 pub send_spec : {M : Type 1} → statement M

@@ -6,10 +6,10 @@ use Rattle.feeding.proofs.FedWords.{FedTo, feed_begins, feed_point, feed_top_roo
 use Rattle.feeding.proofs.feed.Statement.{statement}
 use Rattle.feeding.proofs.feed.Tie as tie
 
-abbrev invariant-loop : tie.invariant-loop
+abbrev invariant-loop : tie.invariant-loop-x
 invariant-loop algebra n size weights band edges₀ x₀ edges x = FedTo algebra n size band weights edges₀ x edges
 
-abbrev decreases-loop : tie.decreases-loop
+abbrev decreases-loop : tie.decreases-loop-x
 decreases-loop algebra n size weights band edges₀ x₀ edges x = band.to - x
 
 pub feed_spec : {M : Type 1} → statement M

@@ -13,4 +13,4 @@ turn_of_spec =
     (λ c. search turn_ended)
     (λ c. search turn-fits)
     (λ c. search turn_failed)
-    (λ c. search (turn_on, c.if1.false)))
+    (λ c. search (turn_on, c.if-n-eq0.false)))

@@ -5,7 +5,7 @@ use Rattle.interval.proofs.close_range.Statement.{statement}
 use Rattle.interval.proofs.close_range.Tie as tie
 
 -- what an accepted call leaves
-closes : tie.Need-returns-2
+closes : tie.Need-returns
 closes c = search given
 
 pub close_range_spec : {M : Type 1} → statement M
@@ -22,8 +22,8 @@ close_range_spec =
     -- the eliminations
     (λ c κs. search best_ready)
     (λ c κs.
-    let found : tie.After-check-range = search rules in
-    let fit : tie.After-checked = search rules in worst_ready found.check-range.ensures fit.checked.given.1)
+    let found : tie.After-check_range-checked = search rules in
+    let fit : tie.In-Fit-2 = search rules in worst_ready found.check-range.ensures fit.checked.given.1)
     (λ c. search rules)
     (λ c. search rules)
     closes)

@@ -8,10 +8,10 @@ use Rattle.refusals.specs.Tests.{outside}
 use Rattle.job_list.proofs.any_outside.Statement.{statement}
 use Rattle.job_list.proofs.any_outside.Tie as tie
 
-abbrev invariant-loop : tie.invariant-loop
+abbrev invariant-loop : tie.invariant-loop-q
 invariant-loop order sizes found₀ q₀ found q = Looking (outside 1 order) sizes q found
 
-abbrev decreases-loop : tie.decreases-loop
+abbrev decreases-loop : tie.decreases-loop-q
 decreases-loop order sizes found₀ q₀ found q = length sizes - q
 
 pub any_outside_spec : {M : Type 1} → statement M
@@ -23,7 +23,7 @@ any_outside_spec =
     (λ c. search look_begins)
     (λ c. search rules)
     (λ c. search rules)
-    (λ c. omega (arith, c.shared-slice-known.given c.before.before.loop.q))
+    (λ c. omega (arith, c.shared_slice_known-1.given c.before.before.loop-q.q))
     (λ c. search rules)
     (λ c. search rules)
     (λ c. search look_goes_on)

@@ -6,10 +6,10 @@ use Rattle.job_list.proofs.Sums.{Summed, begins, square_room, sum_room, goes_on,
 use Rattle.job_list.proofs.words_before.Statement.{statement}
 use Rattle.job_list.proofs.words_before.Tie as tie
 
-abbrev invariant-loop : tie.invariant-loop
+abbrev invariant-loop : tie.invariant-loop-p
 invariant-loop sizes q words₀ p₀ words p = Summed sizes q words p
 
-abbrev decreases-loop : tie.decreases-loop
+abbrev decreases-loop : tie.decreases-loop-p
 decreases-loop sizes q words₀ p₀ words p = q - p
 
 pub words_before_spec : {M : Type 1} → statement M
@@ -21,7 +21,7 @@ words_before_spec =
     (λ c. search begins)
     (λ c. search rules)
     (λ c. search rules)
-    (λ c. omega (arith, c.shared-slice-known.given c.before.before.loop.p))
+    (λ c. omega (arith, c.shared_slice_known-1.given c.before.before.loop-p.p))
     (λ c. search square_room)
     (λ c. search sum_room)
     (λ c. search rules)

@@ -8,8 +8,8 @@ pub length_tests_spec : {M : Type 1} → statement M
 length_tests_spec =
     tie.close
     (tie.spec
-    (λ c. search (tests, numbers, or_first, c.if1.true))
-    (λ c. search (tests, numbers, or_first, or_second, c.if2.true) depth 9)
-    (λ c. search (tests, numbers, or_second, c.if3.true) depth 9)
+    (λ c. search (tests, numbers, or_first, c.if-algebras-ne16.true))
+    (λ c. search (tests, numbers, or_first, or_second, c.if-sizes-ne16.true) depth 9)
+    (λ c. search (tests, numbers, or_second, c.if-weights-ne16384.true) depth 9)
     (λ c. search (tests, numbers, or_neither) depth 9)
     (λ c. search (tests, numbers, or_neither) depth 9))

@@ -5,7 +5,7 @@ use Rattle.paths.proofs.eliminate.Statement.{statement}
 use Rattle.paths.proofs.eliminate.Tie as tie
 
 -- what an accepted call leaves
-closes : tie.Need-returns-2
+closes : tie.Need-returns
 closes c = search accepted
 
 pub eliminate_spec : {M : Type 1} → statement M

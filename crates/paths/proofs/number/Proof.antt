@@ -13,4 +13,4 @@ number_spec =
     (λ c. search rules)
     (λ c κs. search rules)
     (λ c. search rules)
-    (λ c. let told : tie.After-closed = search in c.number.ensures ∙ sym (ap closed_number told.closed.given.1)))
+    (λ c. let told : tie.In-Refused-2 = search in c.number.ensures ∙ sym (ap closed_number told.closed.given.1)))

@@ -4,14 +4,14 @@ use Rattle.road_sheet.proofs.Closing.{never_refused, closed_square, closed_print
 use Rattle.road_sheet.proofs.print_closed.Statement.{statement}
 use Rattle.road_sheet.proofs.print_closed.Tie as tie
 
-printed : tie.Need-returns
+printed : tie.Need-returns-in-Done
 printed c = search closed_printed
 
-turned_back : tie.Need-returns-2
+turned_back : tie.Need-returns-in-Refused
 turned_back c =
     let s : tie.Start = search rules in
-    let e : tie.After-eliminate = search rules in
-    let k : tie.After-answer = search rules in
+    let e : tie.After-eliminate-answer = search rules in
+    let k : tie.In-Refused-2 = search rules in
     absurd (never_refused s.pre e.eliminate.ensures _ k.answer.given.1)
 
 pub print_closed_spec : {M : Type 1} → statement M

@@ -4,10 +4,10 @@ use Rattle.road_sheet.proofs.Files.{refusal_printed, words_room, table_within, t
 use Rattle.road_sheet.proofs.print_file.Statement.{statement}
 use Rattle.road_sheet.proofs.print_file.Tie as tie
 
-printed : tie.Need-returns
+printed : tie.Need-returns-in-Points
 printed c = search table_printed
 
-turned_back : tie.Need-returns-2
+turned_back : tie.Need-returns-in-Refused
 turned_back c = search refusal_printed
 
 pub print_file_spec : {M : Type 1} → statement M

@@ -10,5 +10,5 @@ finish_spec =
     tie.close
     (tie.spec
     (λ c. search (ended_refused, tests, no_points))
-    (λ c. search (ended_refused, tests, some_points, c.if2.true))
+    (λ c. search (ended_refused, tests, some_points, c.if-s.true))
     (λ c. search (ended_points, tests, some_points)))

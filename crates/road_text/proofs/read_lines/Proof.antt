@@ -7,10 +7,10 @@ use Rattle.road_text.proofs.Follows.{Reached, reached_none, still_ready, end_fit
 use Rattle.road_text.proofs.read_lines.Statement.{statement}
 use Rattle.road_text.proofs.read_lines.Tie as tie
 
-abbrev Inv : tie.invariant-loop
+abbrev Inv : tie.invariant-loop-from
 Inv file table₀ s₀ from₀ table s from = Reached file table₀ table s from
 
-abbrev μ : tie.decreases-loop
+abbrev μ : tie.decreases-loop-from
 μ file table₀ s₀ from₀ table s from = length file - from
 
 -- A file that is lent has fewer than 2^63 bytes.

@@ -10,7 +10,7 @@ read_road_spec =
     (tie.spec
     (λ c κs. search rules)
     (λ c. search rules)
-    (λ c. search (wrong_buffer, c.if1.true))
+    (λ c. search (wrong_buffer, c.if-table-ne-TABLE_WORDS.true))
     (λ c κs. search right_zeros)
     (λ c. search rules)
     (λ c. search right_buffer))

@@ -9,9 +9,9 @@ use Rattle.sheet.proofs.print_text.Tie as tie
 
 -- The place where the answer is known to be a list, the reading before it, and the beginning.
 abbrev Known : Type 0
-Known = tie.After-answer
+Known = tie.In-List-2
 
-abbrev at_read : Known → tie.After-read
+abbrev at_read : Known → tie.After-read-answer
 at_read k = k.before.before.before.before.before.before.before.before
 
 abbrev begun : Known → tie.Start
@@ -26,25 +26,25 @@ listed : (k : Known)
     (at_read k).read.new.1.1.1.0
 listed k = read_list (text k) (begun k).requires k.answer.given.1 (at_read k).read.ensures
 
-list_ready : tie.Need-print-list-requires
+list_ready : tie.Need-print_list-requires
 list_ready c κs =
     let k : Known = search rules in
-    let w : tie.After-words-before = search rules in
+    let w : tie.After-words_before-words = search rules in
     list_accepted (listed k) w.words-before.ensures.0
 
-sheet_printed : tie.Need-returns
+sheet_printed : tie.Need-returns-in-List
 sheet_printed c =
     let k : Known = search rules in
-    let w : tie.After-words-before = search rules in
-    let p : tie.After-print-list = search rules in
+    let w : tie.After-words_before-words = search rules in
+    let p : tie.After-print_list = search rules in
     list_printed (listed k) w.words-before.ensures.0 p.print-list.ensures
 
-turned_back : tie.Need-returns-2
+turned_back : tie.Need-returns-in-Refused
 turned_back c =
     let asked : tie.Start = search rules in
-    let r : tie.After-read = search rules in
-    let k : tie.After-answer2 = search rules in
-    let p : tie.After-put-refused = search rules in
+    let r : tie.After-read-answer = search rules in
+    let k : tie.In-Refused-2 = search rules in
+    let p : tie.After-put_refused = search rules in
     refusal_printed asked.args.text.now asked.pre k.answer2.given.1 r.read.ensures p.Put-refused.ensures
 
 pub print_text_spec : {M : Type 1} → statement M
@@ -64,8 +64,8 @@ print_text_spec =
     (λ c. search rules)
     (λ c. let k : Known = search rules in (listed k).few)
     (λ c. let k : Known = search rules in sym (listed k).count)
-    (λ c. let k : Known = search rules in let w : tie.After-words-before = search rules in words_within (listed k) w.words-before.ensures.0)
-    (λ c. let k : Known = search rules in let w : tie.After-words-before = search rules in words_part (listed k) w.words-before.ensures.0)
+    (λ c. let k : Known = search rules in let w : tie.After-words_before-words = search rules in words_within (listed k) w.words-before.ensures.0)
+    (λ c. let k : Known = search rules in let w : tie.After-words_before-words = search rules in words_part (listed k) w.words-before.ensures.0)
     list_ready
     -- the refusal
     (λ c. search rules)

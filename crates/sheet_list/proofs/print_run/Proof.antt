@@ -14,29 +14,29 @@ started c = c.before.before.before.before.before.before
 abbrev begun : tie.After-start → tie.Start
 begun c = c.before.before.before.before.before.before.before.before.before
 
-turned_back : tie.Need-returns
+turned_back : tie.Need-returns-in_default
 turned_back c =
     let s : tie.After-start = search rules in
-    absurd (start_accepts (begun s).pre s.start.ensures c.enum-told2.given.1)
+    absurd (start_accepts (begun s).pre s.start.ensures c.in_default.is)
 
-run_turned_back : tie.Need-returns-2
+run_turned_back : tie.Need-returns-in_default-run
 run_turned_back c =
     let r : tie.After-run = search rules in
     let z = cleared r in
     let s = started z in
-    absurd (run_accepts (begun s).pre s.start.ensures z.clear.ensures r.run.ensures c.enum-told3.given.1)
+    absurd (run_accepts (begun s).pre s.start.ensures z.clear.ensures r.run.ensures c.in_default-run.is)
 
-lines_ready : tie.Need-put-ticks-requires
+lines_ready : tie.Need-put_ticks-requires
 lines_ready c κs =
     let r : tie.After-run = search rules in
     let z = cleared r in
     (printable (begun (started z)).requires z.clear.ensures r.run.kept.1.1.1.1.1.1.0, search rules)
 
-printed : tie.Need-returns-3
+printed : tie.Need-returns
 printed c =
-    let lines : tie.After-put-ticks = search rules in
-    let first : tie.After-put-jobs = search rules in
-    let known : tie.After-ticks = search rules in
+    let lines : tie.After-put_ticks = search rules in
+    let first : tie.After-put_jobs-at = search rules in
+    let known : tie.In-Made-2 = search rules in
     let r : tie.After-run = search rules in
     let z = cleared r in
     let s = started z in

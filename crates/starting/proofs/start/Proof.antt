@@ -20,25 +20,25 @@ start_spec =
     -- the jobs
     (λ c. search (refused, tests, pairs) depth 12)
     (λ c. search (refused, tests, pairs) depth 12)
-    (λ c. search (refused, tests, pairs, c.if6.true) depth 12)
+    (λ c. search (refused, tests, pairs, c.if-algebras-sizes.true) depth 12)
     -- the sizes
     (λ c κs. search rules)
     (λ c. search (refused, tests, pairs) depth 12)
     -- the weights
-    (λ c κs. (search rules, sizes_small _ _ _ (search rules) (search rules) c.before.any-outside.ensures c.if7.false))
-    (λ c. search (refused, tests, pairs, c.if8.true) depth 12)
+    (λ c κs. (search rules, sizes_small _ _ _ (search rules) (search rules) c.before.any_outside.ensures c.if-any_outside.false))
+    (λ c. search (refused, tests, pairs, c.if-weights-words_before.true) depth 12)
     -- the state
     (λ c. search rooms)
     (λ c. search rooms)
     (λ c. search rooms)
-    (λ c. search (refused, tests, pairs, c.if9.true) depth 12)
+    (λ c. search (refused, tests, pairs, c.if-state-order.true) depth 12)
     -- the words
     (λ c κs.
-    let one_each : tie.Else6 = search in
-    let o : tie.After-any-outside = search in
-    let sized : tie.Else7 = search in
-    let w : tie.After-words-before = search in
-    let long : tie.Else8 = search in
+    let one_each : tie.Else-algebras-sizes = search in
+    let o : tie.After-any_outside = search in
+    let sized : tie.Else-any_outside = search in
+    let w : tie.After-words_before = search in
+    let long : tie.Else-weights-words_before = search in
     parts (search rules) (sizes_small _ _ _ (search rules) (search rules) o.any-outside.ensures sized.if7.left) one_each.if6.left long.if8.left
     w.words-before.ensures.0)
     (λ c. search (refused, tests, pairs) depth 12)

@@ -20,7 +20,7 @@ read_header_spec =
     (λ c. search (unfit, header_tests) depth 12)
     -- the second word
     (λ c. search rules)
-    (λ c. search (unfit, header_tests, c.if4.true) depth 12)
+    (λ c. search (unfit, header_tests, c.if-state-ne0.true) depth 12)
     -- the count
     (λ c. search (unfit, header_tests) depth 12)
     (λ c. search (unfit, header_tests) depth 12)
@@ -29,7 +29,7 @@ read_header_spec =
     (λ c. search rooms)
     (λ c. search rooms)
     (λ c. search rooms)
-    (λ c. search (unfit, header_tests, c.if7.true) depth 12)
+    (λ c. search (unfit, header_tests, c.if-state-order.true) depth 12)
     -- the tick
     (λ c κs. search rules)
     (λ c. search (unfit, header_tests) depth 12)

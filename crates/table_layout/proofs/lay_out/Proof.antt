@@ -7,17 +7,17 @@ use Rattle.table_layout.proofs.Diagonal.{Laying, begins, stretch, copied, ends}
 use Rattle.table_layout.proofs.lay_out.Statement.{statement}
 use Rattle.table_layout.proofs.lay_out.Tie as tie
 
-abbrev Inv : tie.invariant-loop
+abbrev Inv : tie.invariant-loop-at
 Inv n m weights table₀ word at₀ table at = Laying word n m weights table₀ at table
 
-abbrev μ : tie.decreases-loop
+abbrev μ : tie.decreases-loop-at
 μ n m weights table₀ word at₀ table at = m - at
 
 -- what the walk leaves
 after_m_steps : tie.Need-returns Inv μ
 after_m_steps c = search ends
 
-one_stretch : tie.Need-loop-preserved Inv μ
+one_stretch : tie.Need-loop-at-preserved Inv μ
 one_stretch c = search copied
 
 pub lay_out_spec : {M : Type 1} → statement M

@@ -17,7 +17,7 @@ way_spec =
     (λ c. search rules)
     (λ c. search refused_checks)
     -- the list
-    (λ c. search (refused, tests, c.if1.true))
+    (λ c. search (refused, tests, c.if-list-size.true))
     -- the points
     (λ c. search (refused, tests, le-leb))
     (λ c. search (refused, tests, le-leb, lt-leb) depth 9)
@@ -33,9 +33,9 @@ way_spec =
     (λ c. search (refused, tests, told_not, lt-leb, equal_as) depth 12)
     -- the way
     (λ c κs.
-    let k : tie.After-is-closed = search rules in
-    let checks : tie.After-check = search rules in
+    let k : tie.After-is_closed = search rules in
+    let checks : tie.After-check-checked = search rules in
     sought checks.check.ensures _ (search rules) k.is-closed.result (search rules) (search rules) (search rules) k.is-closed.ensures (search rules))
     (λ c. search rules)
     (λ c.
-    let k : tie.After-find-arg = search rules in search (given, tests, told_not, lt-leb, other_than, k.before.if5.left) depth 12))
+    let k : tie.After-find-arg-1 = search rules in search (given, tests, told_not, lt-leb, other_than, k.before.if5.left) depth 12))

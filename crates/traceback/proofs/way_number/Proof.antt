@@ -13,4 +13,4 @@ way_number_spec =
     (λ c. search rules)
     (λ c κs. search rules)
     (λ c. search rules)
-    (λ c. let told : tie.After-answer = search in c.number.ensures ∙ sym (ap way_number told.answer.given.1)))
+    (λ c. let told : tie.In-Refused-2 = search in c.number.ensures ∙ sym (ap way_number told.answer.given.1)))

@@ -18,9 +18,9 @@ use Rattle.array.proofs.running.run.Tie as tie
 
 -- The place where the header is known and no test was made, and what is known there.
 abbrev Known : Type 0
-Known = tie.After-header
+Known = tie.In-Fit-2
 
-unfoldable read : Known → tie.After-read-header
+unfoldable read : Known → tie.After-read_header
 read k = search
 
 unfoldable start : Known → tie.Start
@@ -63,22 +63,22 @@ turned k {answer} some none applied failed =
     refused (fit k) (algebras k) (sizes k) (weights k) (allowance k) (scratch k) (results k) answer some none applied failed
 
 -- The place before the last test, of the words: all tests before it failed.
-unfoldable there : tie.Else7 → Known
+unfoldable there : tie.Else-results-words → Known
 there e = search
 
-fits : (e : tie.Else7) → Before 5 (table (there e))
+fits : (e : tie.Else-results-words) → Before 5 (table (there e))
 unfolding start there
 fits e =
-    let counted : tie.Else1 = search in
-    let one_each : tie.Else2 = search in
-    let u : tie.After-any-unknown = search in
-    let named : tie.Else3 = search in
-    let o : tie.After-any-outside = search in
-    let sized : tie.Else4 = search in
-    let w : tie.After-words-before = search in
-    let long : tie.Else5 = search in
-    let s : tie.After-scratch-words = search in
-    let room : tie.Else6 = search in (
+    let counted : tie.Else-sizes-count = search in
+    let one_each : tie.Else-algebras-count = search in
+    let u : tie.After-any_unknown = search in
+    let named : tie.Else-any_unknown = search in
+    let o : tie.After-any_outside = search in
+    let sized : tie.Else-any_outside = search in
+    let w : tie.After-words_before-words = search in
+    let long : tie.Else-weights-words = search in
+    let s : tie.After-scratch_words = search in
+    let room : tie.Else-scratch-scratch_words = search in (
       neither _ _ (same _ _ counted.if1.left) (same _ _ one_each.if2.left),
       (
         told _ _ _ u.any-unknown.ensures named.if3.left,
@@ -99,33 +99,33 @@ fits e =
     )
 
 -- The place where no test applied.
-unfoldable known : tie.After-ticks-left → Known
+unfoldable known : tie.After-ticks_left → Known
 known l = search
 
-passed : (l : tie.After-ticks-left) → Clear (table (known l))
+passed : (l : tie.After-ticks_left) → Clear (table (known l))
 unfolding start there known
 passed l =
-    let a : tie.After-any-above = search in
-    let words : tie.Else8 = search in
-    let e : tie.Else7 = search in
+    let a : tie.After-any_above = search in
+    let words : tie.Else-any_above = search in
+    let e : tie.Else-results-words = search in
     let (counted, (named, (sized, (long, (room, (whole, _)))))) = fits e in
     (counted, (named, (sized, (long, (room, (whole, (told _ _ _ a.any-above.ensures words.if8.left, tt)))))))
 
 went_on : tie.Need-proceed-requires
 unfolding start known
 went_on c κs =
-    let s : tie.After-smaller = search in
-    let l : tie.After-ticks-left = search in
+    let s : tie.After-smaller-made = search in
+    let l : tie.After-ticks_left = search in
     let k = known l in
     runnable (fit k) (algebras k) (sizes k) (weights k) (allowance k) (scratch k) (results k) (passed l) s.smaller.ensures l.ticks_left.ensures
 
-made : tie.Need-returns-10
+made : tie.Need-returns
 unfolding start known
 made c =
     let end : tie.After-clear = search in
     let went : tie.After-proceed = search in
-    let s : tie.After-smaller = search in
-    let l : tie.After-ticks-left = search in
+    let s : tie.After-smaller-made = search in
+    let l : tie.After-ticks_left = search in
     let k = known l in
     accepted (fit k) (algebras k) (sizes k) (weights k) (allowance k) (scratch k) (results k) (passed l) s.smaller.ensures l.ticks_left.ensures
     went.proceed.ensures (search (cleared, end.clear.ensures, went.proceed.kept))
@@ -145,9 +145,9 @@ run_spec =
     (λ c. search rules)
     -- the count
     (λ c. search rules)
-    (λ c. let k : Known = search in turned k refl refl (search (pairs, run_tests_lem, c.if1.true)) (search run_tests_lem depth 12))
+    (λ c. let k : Known = search in turned k refl refl (search (pairs, run_tests_lem, c.if-sizes-count.true)) (search run_tests_lem depth 12))
     (λ c. search rules)
-    (λ c. let k : Known = search in turned k refl refl (search (pairs, run_tests_lem, c.if2.true)) (search run_tests_lem depth 12))
+    (λ c. let k : Known = search in turned k refl refl (search (pairs, run_tests_lem, c.if-algebras-count.true)) (search run_tests_lem depth 12))
     -- the algebras
     (λ c κs. search rules)
     (λ c. search rules)
@@ -159,31 +159,31 @@ run_spec =
     -- the weights
     (λ c κs.
     let k : Known = search in
-    let counted : tie.Else1 = search in
-    let o : tie.After-any-outside = search in
-    sizes_room (fit k) counted.if1.left o.any-outside.ensures c.if4.false)
+    let counted : tie.Else-sizes-count = search in
+    let o : tie.After-any_outside = search in
+    sizes_room (fit k) counted.if1.left o.any-outside.ensures c.if-any_outside.false)
     (λ c. search rules)
-    (λ c. let k : Known = search in turned k refl refl (search (run_tests_lem, c.if5.true)) (search run_tests_lem depth 12))
+    (λ c. let k : Known = search in turned k refl refl (search (run_tests_lem, c.if-weights-words.true)) (search run_tests_lem depth 12))
     -- the scratch
     (λ c κs. let k : Known = search in (fit k).ranged.most)
     (λ c. search rules)
-    (λ c. let k : Known = search in turned k refl refl (search (run_tests_lem, c.if6.true)) (search run_tests_lem depth 12))
+    (λ c. let k : Known = search in turned k refl refl (search (run_tests_lem, c.if-scratch-scratch_words.true)) (search run_tests_lem depth 12))
     -- the results
     (λ c. search rules)
-    (λ c. let k : Known = search in turned k refl refl (search (run_tests_lem, c.if7.true)) (search run_tests_lem depth 12))
+    (λ c. let k : Known = search in turned k refl refl (search (run_tests_lem, c.if-results-words.true)) (search run_tests_lem depth 12))
     -- the words
     (λ c κs.
     let k : Known = search in
-    let counted : tie.Else1 = search in
-    let named : tie.Else2 = search in
-    let o : tie.After-any-outside = search in
-    let w : tie.After-words-before = search in
-    let sized : tie.Else4 = search in
-    let long : tie.Else5 = search in
+    let counted : tie.Else-sizes-count = search in
+    let named : tie.Else-algebras-count = search in
+    let o : tie.After-any_outside = search in
+    let w : tie.After-words_before-words = search in
+    let sized : tie.Else-any_outside = search in
+    let long : tie.Else-weights-words = search in
     parts_there (fit k) counted.if1.left named.if2.left o.any-outside.ensures sized.if4.left long.if5.left
     w.words-before.ensures.0)
     (λ c. search rules)
-    (λ c. let e : tie.Else7 = search in turned (there e) refl refl (search run_tests_lem) (fits e))
+    (λ c. let e : tie.Else-results-words = search in turned (there e) refl refl (search run_tests_lem) (fits e))
     -- the run
     (λ c κs. let k : Known = search in ((fit k).ranged, (fit k).within))
     (λ c κs. search rules)

@@ -22,7 +22,7 @@ encode_spec =
     (λ c. search rules)
     (λ c. search rules)
     -- the high byte
-    (λ c. omega (arith, c.shared-slice-known.given c.before.before.loop.p))
+    (λ c. omega (arith, c.shared_slice_known-1.given c.before.before.loop-p.p))
     (λ c. search rules)
     (λ c. search rules)
     (λ c. simp length-set (omega arith))

@@ -6,10 +6,10 @@ use Rattle.byte_tables.proofs.Parts.{Seeing, seeing_begins, seeing_goes_on, seei
 use Rattle.byte_tables.proofs.test.above.Statement.{statement}
 use Rattle.byte_tables.proofs.test.above.Tie as tie
 
-abbrev invariant-loop : tie.invariant-loop
+abbrev invariant-loop : tie.invariant-loop-p
 invariant-loop top bytes end found₀ p₀ found p = Seeing top bytes p found
 
-abbrev decreases-loop : tie.decreases-loop
+abbrev decreases-loop : tie.decreases-loop-p
 decreases-loop top bytes end found₀ p₀ found p = end - p
 
 pub above_spec : {M : Type 1} → statement M
@@ -31,6 +31,6 @@ above_spec =
     (λ c. search rules)
     (λ c.
     let taken : tie.After-word invariant-loop decreases-loop = search rules in
-    let turn : tie.In-loop invariant-loop decreases-loop = search rules in
+    let turn : tie.In-loop-p invariant-loop decreases-loop = search rules in
     seeing_goes_on turn.before.loop.inv _ (search rules) taken.word.ensures refl)
     (λ c. search seeing_ends))

@@ -5,4 +5,4 @@ use Rattle.cards.proofs.verdict.verdict.Statement.{statement}
 use Rattle.cards.proofs.verdict.verdict.Tie as tie
 
 pub verdict_spec : {M : Type 1} → statement M
-verdict_spec = tie.close (tie.spec (λ c. ap verdict_of (sym c.if1.true)) (λ c. ap verdict_of (sym c.if1.false)))
+verdict_spec = tie.close (tie.spec (λ c. ap verdict_of (sym c.if-passed.true)) (λ c. ap verdict_of (sym c.if-passed.false)))

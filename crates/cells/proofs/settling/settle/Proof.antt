@@ -8,24 +8,24 @@ use Rattle.cells.proofs.Halves.{settled_all}
 use Rattle.cells.proofs.settling.settle.Statement.{statement}
 use Rattle.cells.proofs.settling.settle.Tie as tie
 
-upper : tie.Need-add-band-requires
+upper : tie.Need-add_band-requires
 upper c κs =
     let start : tie.Start = search in
     let head = start.pre.turn in
     (some_rows head (omega arith) (omega arith) (omega arith) (omega arith) start.pre.long, omega arith)
 
-lower : tie.Need-add-band-requires-2
+lower : tie.Need-add_band-requires-2
 lower c κs =
-    let one : tie.After-add-band = search in
+    let one : tie.After-add_band = search in
     let start : tie.Start = search in
     let head = start.pre.turn in
     (some_rows head (omega arith) (omega arith) (omega arith) (omega arith) (one.add-band.ensures.size ∙ start.pre.long), omega arith)
 
 returns : tie.Need-returns
 returns c =
-    let taken : tie.After-take-rows = search in
-    let two : tie.After-add-band2 = search in
-    let one : tie.After-add-band = search in
+    let taken : tie.After-take_rows = search in
+    let two : tie.After-add_band-2 = search in
+    let one : tie.After-add_band = search in
     let start : tie.Start = search in
     let head = start.pre.turn in
     let behind = pass_before start.args.n start.args.head.pass (omega arith) in

@@ -5,15 +5,15 @@ use Rattle.cells.proofs.Words.{Summing, begins, goes_on, ends}
 use Rattle.cells.proofs.summing.add.Statement.{statement}
 use Rattle.cells.proofs.summing.add.Tie as tie
 
-abbrev Inv : tie.invariant-loop
+abbrev Inv : tie.invariant-loop-p
 Inv algebra area at end planes₀ p₀ planes p = Summing algebra area at end planes₀ p planes
 
-abbrev μ : tie.decreases-loop
+abbrev μ : tie.decreases-loop-p
 μ algebra area at end planes₀ p₀ planes p = end - p
 
-turned : tie.Need-loop-preserved Inv μ
+turned : tie.Need-loop-p-preserved Inv μ
 turned c =
-    let turn : tie.In-loop Inv μ = search in
+    let turn : tie.In-loop-p Inv μ = search in
     goes_on turn.before.loop.inv turn.loop-test.taken c.before.product.ensures c.sum.ensures
 
 pub add_spec : {M : Type 1} → statement M

@@ -5,11 +5,11 @@ use Rattle.cells.proofs.Added.{band_added}
 use Rattle.cells.proofs.summing.add_band.Statement.{statement}
 use Rattle.cells.proofs.summing.add_band.Tie as tie
 
-at_once : tie.Need-returns
+at_once : tie.Need-returns-then-sums-2
 at_once c =
     let start : tie.Start = search in
     let here : tie.After-sums = search in
-    let behind : tie.After-sums2 = search in
+    let behind : tie.After-sums-then-sums = search in
     let added : tie.After-add = search in
     band_added start.args.algebra start.pre.0 start.pre.1 here.sums.ensures (search) behind.sums2.ensures (search)
     added.add.ensures

@@ -12,4 +12,4 @@ a_takes_spec =
     (λ c κs. search rules)
     (λ c. search rules)
     (λ c. let done : tie.After-put = search in halved (omega arith) done.put.ensures)
-    (λ c. search (odd, c.if1.false)))
+    (λ c. search (odd, c.if-twice-eq0.false)))

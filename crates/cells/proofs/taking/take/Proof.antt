@@ -11,18 +11,18 @@ use Rattle.cells.proofs.taking.take.Tie as tie
 b_requires : tie.Need-put-requires
 b_requires c κs =
     let start : tie.Start = search in
-    let first : tie.After-a-takes = search in
-    let second : tie.After-a-takes2 = search in
+    let first : tie.After-a_takes = search in
+    let second : tie.After-a_takes-2 = search in
     (area_most start.pre, omega arith, search (span_end start.pre), second.a-takes2.ensures.size ∙ first.a_takes.ensures.size ∙ start.pre.long)
 
 returns : tie.Need-returns
 returns c =
     let last : tie.After-put = search in
-    let turned : tie.After-column = search in
-    let second : tie.After-a-takes2 = search in
-    let first : tie.After-a-takes = search in
-    let adds : tie.After-summed = search in
-    let moves : tie.After-moved = search in
+    let turned : tie.After-column-j = search in
+    let second : tie.After-a_takes-2 = search in
+    let first : tie.After-a_takes = search in
+    let adds : tie.After-summed-summed = search in
+    let moves : tie.After-moved-moved = search in
     let start : tie.Start = search in
     row_took start.pre moves.moved.ensures adds.summed.ensures first.a_takes.ensures second.a-takes2.ensures
     turned.column.ensures last.put.ensures

@@ -5,19 +5,19 @@ use Rattle.elimination.proofs.Points.{Closing, begins, room_via, room_next, goes
 use Rattle.elimination.proofs.passes.close.Statement.{statement}
 use Rattle.elimination.proofs.passes.close.Tie as tie
 
-abbrev Inv : tie.invariant-loop
+abbrev Inv : tie.invariant-loop-k
 Inv a n table₀ via₀ next₀ k₀ table via next k = Closing a n table₀ via next k table
 
-abbrev μ : tie.decreases-loop
+abbrev μ : tie.decreases-loop-k
 μ a n table₀ via₀ next₀ k₀ table via next k = n - k
 
-two_more : tie.Need-loop-preserved Inv μ
+two_more : tie.Need-loop-k-preserved Inv μ
 two_more c = search goes_on
 
-odd : tie.Need-returns Inv μ
+odd : tie.Need-returns-then-k-n Inv μ
 odd c = search ends_odd
 
-even : tie.Need-returns-2 Inv μ
+even : tie.Need-returns-else-k-n Inv μ
 even c = search ends_even
 
 pub close_spec : {M : Type 1} → statement M

@@ -8,16 +8,16 @@ use Rattle.elimination.proofs.Rows.{RowsWalked, begins, row_inside, goes_on, pai
 use Rattle.elimination.proofs.passes.row_pairs.Statement.{statement}
 use Rattle.elimination.proofs.passes.row_pairs.Tie as tie
 
-abbrev Inv : tie.invariant-loop
+abbrev Inv : tie.invariant-loop-i
 Inv a n k via next table₀ i₀ table i = RowsWalked n (relaxed_twice a k via next) table₀ i table
 
-abbrev μ : tie.decreases-loop
+abbrev μ : tie.decreases-loop-i
 μ a n k via next table₀ i₀ table i = n - i
 
-odd : tie.Need-returns Inv μ
+odd : tie.Need-returns-then-i-n Inv μ
 odd c = search (ends_two, goes_on)
 
-even : tie.Need-returns-2 Inv μ
+even : tie.Need-returns-else-i-n Inv μ
 even c = search ends_two
 
 pub row_pairs_spec : {M : Type 1} → statement M

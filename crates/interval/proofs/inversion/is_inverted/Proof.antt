@@ -6,17 +6,17 @@ use Rattle.interval.proofs.Walks.{Walking, bounds, parts_alike, walk_begins, wal
 use Rattle.interval.proofs.inversion.is_inverted.Statement.{statement}
 use Rattle.interval.proofs.inversion.is_inverted.Tie as tie
 
-abbrev invariant-loop : tie.invariant-loop
+abbrev invariant-loop : tie.invariant-loop-i
 invariant-loop a n best worst found₀ i₀ found i = Walking a n best worst i found
 
-abbrev decreases-loop : tie.decreases-loop
+abbrev decreases-loop : tie.decreases-loop-i
 decreases-loop a n best worst found₀ i₀ found i = n - i
 
 -- one stretch more
-one_stretch : tie.Need-loop-preserved invariant-loop decreases-loop
+one_stretch : tie.Need-loop-i-preserved invariant-loop decreases-loop
 one_stretch c =
-    let taken : tie.After-some-better invariant-loop decreases-loop = search rules in
-    let turn : tie.At-loop invariant-loop decreases-loop = search rules in
+    let taken : tie.After-some_better-found invariant-loop decreases-loop = search rules in
+    let turn : tie.At-loop-i invariant-loop decreases-loop = search rules in
     walk_goes_on turn.loop.inv (search rules) _ taken.some-better.ensures refl
 
 ends : tie.Need-returns invariant-loop decreases-loop

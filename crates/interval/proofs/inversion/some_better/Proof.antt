@@ -7,17 +7,17 @@ use Rattle.interval.proofs.Walks.{Comparing, compare_begins, compare_goes_on, co
 use Rattle.interval.proofs.inversion.some_better.Statement.{statement}
 use Rattle.interval.proofs.inversion.some_better.Tie as tie
 
-abbrev invariant-loop : tie.invariant-loop
+abbrev invariant-loop : tie.invariant-loop-p
 invariant-loop a words others found₀ p₀ found p = Comparing a words others p found
 
-abbrev decreases-loop : tie.decreases-loop
+abbrev decreases-loop : tie.decreases-loop-p
 decreases-loop a words others found₀ p₀ found p = length words - p
 
 -- one word more
-one_word : tie.Need-loop-preserved invariant-loop decreases-loop
+one_word : tie.Need-loop-p-preserved invariant-loop decreases-loop
 one_word c =
-    let taken : tie.After-is-better invariant-loop decreases-loop = search rules in
-    let turn : tie.At-loop invariant-loop decreases-loop = search rules in
+    let taken : tie.After-is_better-found invariant-loop decreases-loop = search rules in
+    let turn : tie.At-loop-p invariant-loop decreases-loop = search rules in
     compare_goes_on turn.loop.inv _ (search rules) taken.is-better.ensures refl
 
 pub some_better_spec : {M : Type 1} → statement M

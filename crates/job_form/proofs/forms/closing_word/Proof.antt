@@ -13,7 +13,7 @@ closing_word_spec =
     (tie.spec
     (λ c. search rules)
     (λ c. search rules)
-    (λ c. search (closing_none, c.if1.true))
+    (λ c. search (closing_none, c.if-part-last-ne41.true))
     (λ c. sym (length-take-le _ _ (omega arith)))
     (λ c κs. search rules)
     (λ c. search closing_word))

@@ -11,4 +11,4 @@ head_of_spec =
     (λ c. search rules)
     (λ c. search head_comment)
     (λ c κs. search rules)
-    (λ c. search (head_opening, c.before.if1.false)))
+    (λ c. search (head_opening, c.before.if-part-eq59.false)))

@@ -6,10 +6,10 @@ use Rattle.job_list.proofs.Above.{Seen, begins, algebra_there, part_there, squar
 use Rattle.job_list.proofs.algebras.above_by_job.Statement.{statement}
 use Rattle.job_list.proofs.algebras.above_by_job.Tie as tie
 
-abbrev invariant-loop : tie.invariant-loop
+abbrev invariant-loop : tie.invariant-loop-q
 invariant-loop algebras sizes weights found₀ at₀ q₀ found at q = Seen algebras sizes weights found at q
 
-abbrev decreases-loop : tie.decreases-loop
+abbrev decreases-loop : tie.decreases-loop-q
 decreases-loop algebras sizes weights found₀ at₀ q₀ found at q = length sizes - q
 
 pub above_by_job_spec : {M : Type 1} → statement M

@@ -8,10 +8,10 @@ use Rattle.memory.proofs.Any.{Looking, look_begins, look_goes_on, look_ends}
 use Rattle.job_list.proofs.algebras.any_other.Statement.{statement}
 use Rattle.job_list.proofs.algebras.any_other.Tie as tie
 
-abbrev invariant-loop : tie.invariant-loop
+abbrev invariant-loop : tie.invariant-loop-q
 invariant-loop number algebras found₀ q₀ found q = Looking (λ m. not (eqb m number)) algebras q found
 
-abbrev decreases-loop : tie.decreases-loop
+abbrev decreases-loop : tie.decreases-loop-q
 decreases-loop number algebras found₀ q₀ found q = length algebras - q
 
 pub any_other_spec : {M : Type 1} → statement M

@@ -7,10 +7,10 @@ use Rattle.memory.proofs.Any.{Looking, look_begins, look_goes_on, look_ends}
 use Rattle.job_list.proofs.algebras.any_unknown.Statement.{statement}
 use Rattle.job_list.proofs.algebras.any_unknown.Tie as tie
 
-abbrev invariant-loop : tie.invariant-loop
+abbrev invariant-loop : tie.invariant-loop-q
 invariant-loop algebras found₀ q₀ found q = Looking (ltb 2) algebras q found
 
-abbrev decreases-loop : tie.decreases-loop
+abbrev decreases-loop : tie.decreases-loop-q
 decreases-loop algebras found₀ q₀ found q = length algebras - q
 
 pub any_unknown_spec : {M : Type 1} → statement M

@@ -9,4 +9,4 @@ list_end_tests_spec =
     tie.close
     (tie.spec
     (λ c. search (tests, numbers))
-    (λ c. search (tests, numbers, c.if1.false)))
+    (λ c. search (tests, numbers, c.if-jobs-eq0.false)))

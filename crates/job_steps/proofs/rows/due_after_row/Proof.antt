@@ -7,5 +7,5 @@ pub due_after_row_spec : {M : Type 1} → statement M
 due_after_row_spec =
     tie.close
     (tie.spec
-    (λ c. rw (le-leb _ _ c.if1.true))
-    (λ c. rw (lt-leb _ _ c.if1.false)))
+    (λ c. rw (le-leb _ _ c.if-left-le1.true))
+    (λ c. rw (lt-leb _ _ c.if-left-le1.false)))

@@ -10,6 +10,6 @@ row_tests_spec =
     (tie.spec
     (λ c. search (tests, numbers))
     (λ c. search (tests, numbers))
-    (λ c. search (tests, numbers, c.if3.true) depth 9)
+    (λ c. search (tests, numbers, c.if-tally-size.true) depth 9)
     (λ c. search (tests, numbers) depth 12)
     (λ c. search (tests, numbers) depth 12))

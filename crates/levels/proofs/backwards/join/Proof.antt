@@ -15,7 +15,7 @@ join_spec =
     -- another level
     (λ c. search rules)
     (λ c. search rules)
-    (λ c. search (other_level, c.if1.true))
+    (λ c. search (other_level, c.if-level-u.true))
     -- a turn
     (λ c. search link_begins)
     (λ c κs. search link_seen)

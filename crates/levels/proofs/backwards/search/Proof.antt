@@ -18,7 +18,7 @@ search_spec =
     (λ c. search rules)
     (λ c. search rules)
     (λ c. search rules)
-    (λ c. search (levels_reach, c.if2.true))
+    (λ c. search (levels_reach, c.if-level-from-ne0.true))
     -- a turn
     (λ c κs. search rules)
     (λ c. search rules)

@@ -5,13 +5,13 @@ use Rattle.levels.proofs.Searching.{has_level, not_kept, joins}
 use Rattle.levels.proofs.backwards.visit.Statement.{statement}
 use Rattle.levels.proofs.backwards.visit.Tie as tie
 
-had_one : tie.Need-returns
-had_one c = search (has_level, c.if1.true)
+had_one : tie.Need-returns-then-level-v-ne0
+had_one c = search (has_level, c.if-level-v-ne0.true)
 
-passed_over : tie.Need-returns-2
-passed_over c = search (not_kept, c.if2.true)
+passed_over : tie.Need-returns-then-closed-v
+passed_over c = search (not_kept, c.if-closed-v.true)
 
-levelled : tie.Need-returns-3
+levelled : tie.Need-returns
 levelled c = search joins
 
 pub visit_spec : {M : Type 1} → statement M

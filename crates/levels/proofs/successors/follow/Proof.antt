@@ -5,14 +5,14 @@ use Rattle.levels.proofs.Following.{Following, begins, slots, goes_on, less, lon
 use Rattle.levels.proofs.successors.follow.Statement.{statement}
 use Rattle.levels.proofs.successors.follow.Tie as tie
 
-abbrev Inv : tie.invariant-loop
+abbrev Inv : tie.invariant-loop-v
 Inv from to next list₀ v₀ i₀ list v i = Following to next from list₀ list v i
 
-abbrev μ : tie.decreases-loop
+abbrev μ : tie.decreases-loop-v
 μ from to next list₀ v₀ i₀ list v i = length list - i
 
-one_more : tie.Need-loop-preserved Inv μ
-one_more c = search (goes_on, c.before.loop-test.true)
+one_more : tie.Need-loop-v-preserved Inv μ
+one_more c = search (goes_on, c.before.loop-v-test.true)
 
 whole : tie.Need-returns Inv μ
 whole c = search ends

@@ -7,12 +7,12 @@ use Rattle.moves.proofs.sliding.slide.Statement.{statement}
 use Rattle.moves.proofs.sliding.slide.Tie as tie
 
 -- the place where both tests were met
-both_live : (c : tie.Then2) → let args = c.before.before.before.before.before.args in Live args.count args.head.pass
+both_live : (c : tie.Then-live-2) → let args = c.before.before.before.before.before.args in Live args.count args.head.pass
 both_live c =
     let second = c.before in
     let first = second.before in
     let here = sym first.before.live.ensures ∙ first.if1.true in
-    let behind = sym second.live2.ensures ∙ c.if2.true in
+    let behind = sym second.live2.ensures ∙ c.if-live-2.true in
     record { early = omega (arith, live_early); late = omega (arith, live_late) }
 
 pub slide_spec : {M : Type 1} → statement M

@@ -27,7 +27,7 @@ wrap_left_spec =
     -- the next turn
     (λ c. search rules)
     (λ c. search rules)
-    (λ c. goes_on c.before.before.loop.invariant (omega arith) (omega arith))
+    (λ c. goes_on c.before.before.loop-i.invariant (omega arith) (omega arith))
     -- the end
     (λ c. search rules)
     (λ c. search ends))

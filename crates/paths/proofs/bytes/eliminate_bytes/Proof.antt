@@ -20,13 +20,13 @@ eliminate_bytes_spec =
     (λ c. search (refused, tests))
     (λ c. search (refused, tests))
     -- the weights
-    (λ c. omega (arith, square_fits c.if2.false))
-    (λ c. omega (arith, square_fits c.if2.false))
-    (λ c. search (refused, tests, c.if3.true))
+    (λ c. omega (arith, square_fits c.if-size-gt128.false))
+    (λ c. omega (arith, square_fits c.if-size-gt128.false))
+    (λ c. search (refused, tests, c.if-weights-size.true))
     -- the result
     (λ c. search rules)
     (λ c. search rules)
-    (λ c. search (refused, tests, c.if4.true))
+    (λ c. search (refused, tests, c.if-res-size.true))
     -- the words
     (λ c κs. search rules)
     (λ c. search (refused, tests) depth 9)

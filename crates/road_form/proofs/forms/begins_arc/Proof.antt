@@ -10,6 +10,6 @@ begins_arc_spec =
     (tie.spec
     (λ c. search too_short)
     (λ c. search rules)
-    (λ c. search (other_name, c.if2.true))
+    (λ c. search (other_name, c.if-text-ne97.true))
     (λ c. search rules)
     (λ c. search by_space))

@@ -8,10 +8,10 @@ use Rattle.road_form.proofs.Within.{number_spaced, other_low, other_high, other_
 use Rattle.road_form.proofs.numbers.next_number.Statement.{statement}
 use Rattle.road_form.proofs.numbers.next_number.Tie as tie
 
-abbrev Inv : tie.invariant-loop
+abbrev Inv : tie.invariant-loop-at
 Inv text from start value₀ at₀ value at = Counted text from start value at
 
-abbrev μ : tie.decreases-loop
+abbrev μ : tie.decreases-loop-at
 μ text from start value₀ at₀ value at = length text - at
 
 pub next_number_spec : {M : Type 1} → statement M
@@ -29,7 +29,7 @@ next_number_spec =
     (λ c. search rules)
     (λ c κs. search rules)
     (λ c. search ended_at_lf)
-    (λ c. let spaced : tie.Else2 Inv μ = search rules in search (other_low, spaced.if2.left, c.if3.false))
+    (λ c. let spaced : tie.Else-text-at-eq32 Inv μ = search rules in search (other_low, spaced.if2.left, c.if-text-at-eq10.false))
     -- a digit
     (λ c. search rules)
     (λ c. search other_high)

@@ -4,11 +4,11 @@ use Rattle.road_sheet.proofs.Entries.{entry_row, entry_place, entry_bytes, entry
 use Rattle.road_sheet.proofs.rows.put_entry.Statement.{statement}
 use Rattle.road_sheet.proofs.rows.put_entry.Tie as tie
 
-last_printed : tie.Need-returns
+last_printed : tie.Need-shape_of-page-then-j-n
 last_printed c = search entry-last
 
-inner_printed : tie.Need-returns-2
-inner_printed c = let e : tie.Else1 = search rules in search (entry_inner, e.if1.left)
+inner_printed : tie.Need-returns
+inner_printed c = let e : tie.Else-j-n = search rules in search (entry_inner, e.if1.left)
 
 pub put_entry_spec : {M : Type 1} → statement M
 put_entry_spec =

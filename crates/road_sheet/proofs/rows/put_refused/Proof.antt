@@ -6,9 +6,9 @@ use Rattle.road_sheet.proofs.rows.put_refused.Tie as tie
 
 printed : tie.Need-returns
 printed c =
-    let end : tie.After-put-text2 = search rules in
-    let number : tie.After-put-number = search rules in
-    let begin : tie.After-put-text = search rules in
+    let end : tie.After-put_text = search rules in
+    let number : tie.After-put_number-at = search rules in
+    let begin : tie.After-put_text-at = search rules in
     begin.put-text.ensures
     then number.put-number.ensures
     then end.put-text2.ensures

@@ -9,7 +9,7 @@ pub problem_step_spec : {M : Type 1} → statement M
 problem_step_spec =
     tie.close
     (tie.spec
-    (λ c. search (stopped, tests, c.if1.true))
+    (λ c. search (stopped, tests, c.if-s-ne0.true))
     (λ c. search (stopped, tests))
     (λ c. search (stopped, tests))
     (λ c κs. search begin_room)

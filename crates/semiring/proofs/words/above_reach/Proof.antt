@@ -8,10 +8,10 @@ use Rattle.semiring.proofs.Above.{or_above}
 use Rattle.semiring.proofs.words.above_reach.Statement.{statement}
 use Rattle.semiring.proofs.words.above_reach.Tie as tie
 
-abbrev invariant-loop : tie.invariant-loop
+abbrev invariant-loop : tie.invariant-loop-p
 invariant-loop words bits₀ p₀ bits p = Looking (ltb 1) words p (ltb 1 bits)
 
-abbrev decreases-loop : tie.decreases-loop
+abbrev decreases-loop : tie.decreases-loop-p
 decreases-loop words bits₀ p₀ bits p = length words - p
 
 pub above_reach_spec : {M : Type 1} → statement M

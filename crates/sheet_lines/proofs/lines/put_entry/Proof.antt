@@ -6,15 +6,15 @@ use Rattle.sheet_lines.proofs.lines.put_entry.Tie as tie
 
 printed : tie.Need-returns
 printed c =
-    let end : tie.After-put-text3 = search rules in
-    let word : tie.After-put-word = search rules in
-    let space : tie.After-put-text2 = search rules in
-    let tick : tie.After-put-spaced5 = search rules in
-    let size : tie.After-put-spaced4 = search rules in
-    let column : tie.After-put-spaced3 = search rules in
-    let row : tie.After-put-spaced2 = search rules in
-    let job : tie.After-put-spaced = search rules in
-    let begin : tie.After-put-text = search rules in
+    let end : tie.After-put_text = search rules in
+    let word : tie.After-put_word-at = search rules in
+    let space : tie.After-put_text-at-2 = search rules in
+    let tick : tie.After-put_spaced-at-5 = search rules in
+    let size : tie.After-put_spaced-at-4 = search rules in
+    let column : tie.After-put_spaced-at-3 = search rules in
+    let row : tie.After-put_spaced-at-2 = search rules in
+    let job : tie.After-put_spaced-at = search rules in
+    let begin : tie.After-put_text-at = search rules in
     begin.put-text.ensures
     then job.put-spaced.ensures
     then row.put-spaced2.ensures

@@ -6,11 +6,11 @@ use Rattle.sheet_lines.proofs.lines.put_jobs.Tie as tie
 
 printed : tie.Need-returns
 printed c =
-    let end : tie.After-put-text3 = search rules in
-    let ticks : tie.After-put-spaced2 = search rules in
-    let between : tie.After-put-text2 = search rules in
-    let jobs : tie.After-put-spaced = search rules in
-    let begin : tie.After-put-text = search rules in
+    let end : tie.After-put_text = search rules in
+    let ticks : tie.After-put_spaced-at-2 = search rules in
+    let between : tie.After-put_text-at-2 = search rules in
+    let jobs : tie.After-put_spaced-at = search rules in
+    let begin : tie.After-put_text-at = search rules in
     begin.put-text.ensures
     then jobs.put-spaced.ensures
     then between.put-text2.ensures

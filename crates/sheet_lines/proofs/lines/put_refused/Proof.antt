@@ -9,11 +9,11 @@ use Rattle.sheet_lines.proofs.lines.put_refused.Tie as tie
 
 printed : tie.Need-returns
 printed c =
-    let end : tie.After-put-text2 = search rules in
-    let line : tie.After-put-spaced2 = search rules in
-    let number : tie.After-put-spaced = search rules in
-    let begin : tie.After-put-text = search rules in
-    let told : tie.After-number = search rules in
+    let end : tie.After-put_text = search rules in
+    let line : tie.After-put_spaced-at-2 = search rules in
+    let number : tie.After-put_spaced-at = search rules in
+    let begin : tie.After-put_text-at = search rules in
+    let told : tie.After-number-told = search rules in
     let asked : tie.Start = search rules in
     put_as
     (begin.put-text.ensures

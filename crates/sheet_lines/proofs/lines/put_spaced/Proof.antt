@@ -6,8 +6,8 @@ use Rattle.sheet_lines.proofs.lines.put_spaced.Tie as tie
 
 printed : tie.Need-returns
 printed c =
-    let number : tie.After-put-number = search rules in
-    let space : tie.After-put-text = search rules in
+    let number : tie.After-put_number = search rules in
+    let space : tie.After-put_text-at = search rules in
     space.put-text.ensures
     then number.put-number.ensures
 

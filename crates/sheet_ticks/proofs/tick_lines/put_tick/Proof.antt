@@ -5,15 +5,15 @@ use Rattle.sheet_ticks.proofs.Leaving.{tick_early, tick_late, tick_printed, alge
 use Rattle.sheet_ticks.proofs.tick_lines.put_tick.Statement.{statement}
 use Rattle.sheet_ticks.proofs.tick_lines.put_tick.Tie as tie
 
-lines_printed : tie.Need-returns-3
+lines_printed : tie.Need-returns
 lines_printed c = search tick_printed
 
-part_ready : tie.Need-put-rows-requires
+part_ready : tie.Need-put_rows-requires
 part_ready c κs =
     let asked : tie.Start = search rules in
-    let begun : tie.Else1 = search rules in
-    let job : tie.Else2 = search rules in
-    let first : tie.After-words-before = search rules in
+    let begun : tie.Else-t-span = search rules in
+    let job : tie.Else-sizes-job = search rules in
+    let first : tie.After-words_before-start = search rules in
     part_fits asked.pre begun.if1.left job.if2.left first.words-before.ensures.0
 
 pub put_tick_spec : {M : Type 1} → statement M
@@ -30,21 +30,21 @@ put_tick_spec =
     (λ c. search rules)
     (λ c. search tick_late)
     -- the job's algebra and its part of the results
-    (λ c κs. let asked : tie.Start = search rules in let job : tie.Else2 = search rules in algebra_there asked.pre job.if2.left)
+    (λ c κs. let asked : tie.Start = search rules in let job : tie.Else-sizes-job = search rules in algebra_there asked.pre job.if2.left)
     (λ c. search rules)
     (λ c. search rules)
-    (λ c. let asked : tie.Start = search rules in let job : tie.Else2 = search rules in size_room asked.pre job.if2.left)
-    (λ c κs. let asked : tie.Start = search rules in let job : tie.Else2 = search rules in sizes_ready asked.pre job.if2.left)
-    (λ c. let asked : tie.Start = search rules in let job : tie.Else2 = search rules in square_room asked.pre job.if2.left)
-    (λ c. let asked : tie.Start = search rules in let job : tie.Else2 = search rules in end_room asked.pre job.if2.left c.words-before.ensures.1)
+    (λ c. let asked : tie.Start = search rules in let job : tie.Else-sizes-job = search rules in size_room asked.pre job.if2.left)
+    (λ c κs. let asked : tie.Start = search rules in let job : tie.Else-sizes-job = search rules in sizes_ready asked.pre job.if2.left)
+    (λ c. let asked : tie.Start = search rules in let job : tie.Else-sizes-job = search rules in square_room asked.pre job.if2.left)
+    (λ c. let asked : tie.Start = search rules in let job : tie.Else-sizes-job = search rules in end_room asked.pre job.if2.left c.words_before-start.ensures.1)
     (λ c. search rules)
     (λ c. search rules)
     (λ c. search rules)
     (λ c. search rules)
     (λ c.
     let asked : tie.Start = search rules in
-    let job : tie.Else2 = search rules in
-    let first : tie.After-words-before = search rules in
+    let job : tie.Else-sizes-job = search rules in
+    let first : tie.After-words_before-start = search rules in
     end_within asked.pre job.if2.left first.words-before.ensures.0)
     part_ready
     -- its rows

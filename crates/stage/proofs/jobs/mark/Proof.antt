@@ -6,10 +6,10 @@ use Rattle.stage.proofs.Places.{Marked, begins, start_room, square_room, sum_roo
 use Rattle.stage.proofs.jobs.mark.Statement.{statement}
 use Rattle.stage.proofs.jobs.mark.Tie as tie
 
-abbrev invariant-loop : tie.invariant-loop
+abbrev invariant-loop : tie.invariant-loop-q
 invariant-loop sizes starts₀ q₀ at₀ starts q at = Marked sizes starts₀ starts q at
 
-abbrev decreases-loop : tie.decreases-loop
+abbrev decreases-loop : tie.decreases-loop-q
 decreases-loop sizes starts₀ q₀ at₀ starts q at = length sizes - q
 
 pub mark_spec : {M : Type 1} → statement M
@@ -29,5 +29,5 @@ mark_spec =
     (λ c. search rules)
     (λ c. search rules)
     (λ c. search goes_on)
-    (λ c. c.before.loop.invariant.found.size)
+    (λ c. c.before.loop-q.invariant.found.size)
     (λ c. search ends))

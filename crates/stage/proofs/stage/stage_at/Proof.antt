@@ -13,14 +13,14 @@ stage_at_spec =
     (λ c. search rules)
     (λ c κs. search rules)
     (λ c κs. search rules)
-    (λ c. let at : tie.Start = search in let turn : tie.After-at = search in omega (arith, pass_there at.pre turn.at.ensures))
+    (λ c. let at : tie.Start = search in let turn : tie.After-at-head = search in omega (arith, pass_there at.pre turn.at.ensures))
     (λ c κs. search rules)
-    (λ c. let at : tie.Start = search in let turn : tie.After-at = search in omega (arith, pass_there at.pre turn.at.ensures))
+    (λ c. let at : tie.Start = search in let turn : tie.After-at-head = search in omega (arith, pass_there at.pre turn.at.ensures))
     (λ c κs. search rules)
     (λ c.
     let at : tie.Start = search in
-    let turn : tie.After-at = search in
-    let first : tie.After-job-of = search in
-    let second : tie.After-job-of2 = search in
-    let third : tie.After-job-of3 = search in
+    let turn : tie.After-at-head = search in
+    let first : tie.After-job_of = search in
+    let second : tie.After-job_of-2 = search in
+    let third : tie.After-job_of-3 = search in
     staged at.pre turn.at.ensures first.Job-of.ensures second.job-of2.ensures third.job-of3.ensures))

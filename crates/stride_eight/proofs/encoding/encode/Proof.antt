@@ -6,14 +6,14 @@ use Rattle.stride_eight.proofs.Written.{Writing, begins, size, to_encode, goes_o
 use Rattle.stride_eight.proofs.encoding.encode.Statement.{statement}
 use Rattle.stride_eight.proofs.encoding.encode.Tie as tie
 
-abbrev Inv : tie.invariant-loop
+abbrev Inv : tie.invariant-loop-i
 Inv n table result₀ i₀ result i = Writing n table result₀ i result
 
-abbrev μ : tie.decreases-loop
+abbrev μ : tie.decreases-loop-i
 μ n table result₀ i₀ result i = n - i
 
 -- what a turn leaves
-one_row : tie.Need-loop-preserved Inv μ
+one_row : tie.Need-loop-i-preserved Inv μ
 one_row c = search goes_on
 
 pub encode_spec : {M : Type 1} → statement M

@@ -6,14 +6,14 @@ use Rattle.stride_eight.proofs.Rows.{Laying, begins, words, to_decode, place_ins
 use Rattle.stride_eight.proofs.layout.lay_out.Statement.{statement}
 use Rattle.stride_eight.proofs.layout.lay_out.Tie as tie
 
-abbrev Inv : tie.invariant-loop
+abbrev Inv : tie.invariant-loop-i
 Inv n rows weights table₀ word i₀ table i = Laying word n rows weights table₀ i table
 
-abbrev μ : tie.decreases-loop
+abbrev μ : tie.decreases-loop-i
 μ n rows weights table₀ word i₀ table i = rows - i
 
 -- what a turn leaves
-one_row : tie.Need-loop-preserved Inv μ
+one_row : tie.Need-loop-i-preserved Inv μ
 one_row c = search goes_on
 
 pub lay_out_spec : {M : Type 1} → statement M

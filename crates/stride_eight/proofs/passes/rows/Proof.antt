@@ -6,14 +6,14 @@ use Rattle.stride_eight.proofs.Closing.{Relaxing, no_row, walked_words, row_rela
 use Rattle.stride_eight.proofs.passes.rows.Statement.{statement}
 use Rattle.stride_eight.proofs.passes.rows.Tie as tie
 
-abbrev Inv : tie.invariant-loop
+abbrev Inv : tie.invariant-loop-i
 Inv a n k via table₀ i₀ table i = Relaxing a k via table₀ i table
 
-abbrev μ : tie.decreases-loop
+abbrev μ : tie.decreases-loop-i
 μ a n k via table₀ i₀ table i = n - i
 
 -- what a turn leaves
-one_row : tie.Need-loop-preserved Inv μ
+one_row : tie.Need-loop-i-preserved Inv μ
 one_row c = search row_relaxed
 
 pub rows_spec : {M : Type 1} → statement M

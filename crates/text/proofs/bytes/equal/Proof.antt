@@ -13,12 +13,12 @@ equal_spec =
     (tie.spec
     (λ part name at₀ at. Alike part name at)
     (λ part name at₀ at. length part - at)
-    (λ c. search (longer, c.if1.true))
+    (λ c. search (longer, c.if-part-name.true))
     (λ c. search alike_none)
     -- a turn
     (λ c. search rules)
     (λ c. search rules)
-    (λ c. search (unlike, c.if2.true))
+    (λ c. search (unlike, c.if-part-at.true))
     (λ c. search rules)
     (λ c. search rules)
     (λ c. search alike_one)

@@ -15,7 +15,7 @@ unspaced_spec =
     (λ c. search spaces_none)
     -- a turn
     (λ c. search rules)
-    (λ c. search (spaces_found, c.if1.true))
+    (λ c. search (spaces_found, c.if-line-at-ne32.true))
     (λ c. search rules)
     (λ c. search rules)
     (λ c. search spaces_one)

@@ -18,6 +18,6 @@ until_spec =
     (λ c. search passed_found)
     (λ c. search rules)
     (λ c. search rules)
-    (λ c. search (passed_one, c.if1.false))
+    (λ c. search (passed_one, c.if-bytes-at.false))
     -- the end
     (λ c. search passed_all))

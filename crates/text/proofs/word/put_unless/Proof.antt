@@ -14,4 +14,4 @@ put_unless_spec =
     (λ c. search dash_printed)
     (λ c κs. search rules)
     (λ c. search rules)
-    (λ c. let e : tie.Else1 = search rules in search (word_printed, e.if1.left)))
+    (λ c. let e : tie.Else-word-none = search rules in search (word_printed, e.if1.left)))

@@ -34,4 +34,4 @@ advance_spec =
     (λ c. search rules)
     (λ c. search rules)
     (λ c. search rules)
-    (λ c. ends c.before.loop.invariant.1 c.loop-test.false))
+    (λ c. ends c.before.loop-t.invariant.1 c.loop-t-test.false))

@@ -10,7 +10,7 @@ pub begins_spec : {M : Type 1} → statement M
 begins_spec =
     tie.close
     (tie.spec
-    (λ c. begins_later c.before.args.count c.before.args.pass c.if1.true)
+    (λ c. begins_later c.before.args.count c.before.args.pass c.if-pass-ne0.true)
     (λ c κs. search rules)
     (λ c.
     let asked = c.before in

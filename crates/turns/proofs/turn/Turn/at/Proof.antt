@@ -5,10 +5,10 @@ use borrow.Author.Rules.{rules}
 use Rattle.turns.proofs.turn.Turn.at.Statement.{statement}
 use Rattle.turns.proofs.turn.Turn.at.Tie as tie
 
-div_t3 : tie.Need-nonzero-div-t3
+div_t3 : tie.Need-nonzero_div-result
 div_t3 c = search rules
 
-rem_t4 : tie.Need-nonzero-rem-t4
+rem_t4 : tie.Need-nonzero_rem-result
 rem_t4 c = search rules
 
 returns : tie.Need-returns

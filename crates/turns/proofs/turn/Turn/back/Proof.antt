@@ -5,19 +5,19 @@ use borrow.Author.Rules.{rules}
 use Rattle.turns.proofs.turn.Turn.back.Statement.{statement}
 use Rattle.turns.proofs.turn.Turn.back.Tie as tie
 
-sub_t7 : tie.Need-overflow-sub-t7
+sub_t7 : tie.Need-overflow_sub-result
 sub_t7 c = search rules
 
-sub_t8 : tie.Need-overflow-sub-t8
+sub_t8 : tie.Need-overflow_sub-result-else-point-gt0
 sub_t8 c = pass_some c.before.args.n c.before.args.self.pass (omega arith)
 
-sub_t9 : tie.Need-overflow-sub-t9
+sub_t9 : tie.Need-overflow_sub-result-else-point-gt0-2
 sub_t9 c = search rules
 
-returns : tie.Need-returns
+returns : tie.Need-returns-then-point-gt0
 returns c = search rules
 
-returns-2 : tie.Need-returns-2
+returns-2 : tie.Need-returns-else-point-gt0
 returns-2 c = record {
   below = omega arith;
   at =
