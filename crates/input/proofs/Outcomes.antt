@@ -38,12 +38,12 @@ module _ (at room n : ℕ) (answers : List ℤ) where
   more Full bytes = omega arith
   more Failed (below, last) = (omega arith, last_more (λ x. x <ℤ pos 0) (pos (suc n)) answers last)
 
-told-from : {at room : ℕ} {answers : List ℤ} {r : Input} → at ≤ room → Reads room at answers r → ToldFrom at room answers r
+told-from : {room at : ℕ} {answers : List ℤ} {r : Input} → at ≤ room → Reads room at answers r → ToldFrom at room answers r
 unfolding bytes_of Last
 told-from h (full k) = omega arith
 told-from h (failed k) = (omega arith, below-zero)
 told-from h (ended k) = (k, omega arith, refl)
-told-from {at} {room} h (on {n = n} {answers = answers} {r = r} k reads) = more at room n answers r (told-from k reads)
+told-from {room} {at} h (on {n = n} {answers = answers} {r = r} k reads) = more at room n answers r (told-from k reads)
 
 told_all : (room : ℕ) (answers : List ℤ) (r : Input) → ToldFrom 0 room answers r → Told room answers r
 told_all room answers (Ended n) (below, bytes, last) = (below, omega arith, last)

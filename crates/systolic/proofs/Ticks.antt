@@ -103,10 +103,10 @@ module _ {J : Jobs} (list : ListAccepted J) where
 
   pub reached_ticks : {old : List ℕ} {T : ℕ} (n : ℕ) {m : Array} → Reached J old T m → Reached J old (T + n) (ticks J T n m)
   unfolding ticks
-  reached_ticks {T} zero r = rw (add-zero T) r
-  reached_ticks {T} (suc n) r =
+  reached_ticks {T = T} zero r = rw (add-zero T) r
+  reached_ticks {T = T} (suc n) r =
       let e : T + suc n ≡ T + 1 + n = omega arith in
-      rw e (reached_ticks n (reached_tick r))
+      rw e (reached_ticks {T = T + 1} n (reached_tick r))
 
   -- The array after T ticks from the first.
   pub reached : (T : ℕ) (x : Array) → Reached J x.results T (ticks J 0 T x)

@@ -8,10 +8,9 @@ pub put_unless_spec : {M : Type 1} → statement M
 put_unless_spec =
     tie.close
     (tie.spec
-    (λ c. search rules)
     (λ c κs. search rules)
     (λ c. search rules)
     (λ c. search dash_printed)
     (λ c κs. search rules)
     (λ c. search rules)
-    (λ c. let e : tie.Else-word-none = search rules in search (word_printed, e.if1.left)))
+    (λ c. search (word_printed, c.before.before.before.before.if-word-none.false)))
