@@ -1,4 +1,4 @@
--- Document 01, "Where each call turns back", and requests K2, K7, K9 and K10: the number of each reason, the same wherever a call gives it.
+-- Document 01, "Where each call turns back", and requests K2, K7 and K9: the number of each reason, the same wherever a call gives it.
 use Rattle.std.specs.Prelude.{ℕ}
 use Rattle.refusals.specs.declared.Reason.{Reason}
 use Rattle.refusals.specs.declared.Reason.TheVariants as why
@@ -37,6 +37,3 @@ reason_number why.RoadRange = 22
 reason_number why.RoadCount = 23
 -- K9: "A link whose worst word betters its best one is 24"
 reason_number why.RangeInverted = 24
--- K10: "An offset above 7 is 25, and a write to a read-only byte is 26"
-reason_number why.OffsetAbove = 25
-reason_number why.ReadOnly = 26

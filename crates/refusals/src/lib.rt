@@ -32,8 +32,6 @@ pub enum Reason {
     RoadRange,
     RoadCount,
     RangeInverted,
-    OffsetAbove,
-    ReadOnly,
 }
 
 // What a table of tests gives: none of them applies, or the reason of the first that does.
@@ -72,7 +70,5 @@ pub fn number(reason: Reason) -> u32
         Reason::RoadRange => 22,
         Reason::RoadCount => 23,
         Reason::RangeInverted => 24,
-        Reason::OffsetAbove => 25,
-        Reason::ReadOnly => 26,
     }
 }
