@@ -13,7 +13,6 @@ problem_line_spec =
     (λ c. search rules)
     (λ c. search rules)
     (λ c. search rules)
-    (λ c. search rules)
     (λ c κs. search rules)
     (λ c. search problem_first)
     (λ c κs. search rules)

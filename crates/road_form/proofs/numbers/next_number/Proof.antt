@@ -29,7 +29,7 @@ next_number_spec =
     (λ c. search rules)
     (λ c κs. search rules)
     (λ c. search ended_at_lf)
-    (λ c. let spaced : tie.Else-text-at-eq32 Inv μ = search rules in search (other_low, spaced.if2.left, c.if-text-at-eq10.false))
+    (λ c. let spaced : tie.Else-text-at-eq32 Inv μ = search rules in search (other_low, spaced.if-text-at-eq32.false, c.if-text-at-eq10.false))
     -- a digit
     (λ c. search rules)
     (λ c. search other_high)
