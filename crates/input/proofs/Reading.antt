@@ -1,5 +1,5 @@
 -- The walk over the reads: what holds after each, and what all come to.
-use Rattle.std.proofs.Common.{ℕ, zero, suc, ◌+◌, ◌-◌, ◌<◌, ◌≤◌, ◌≡◌, refl, sym, ap, subst, ◌∙◌, List, [], ◌∷◌, ◌++◌, Option, length, take, drop, length-drop, arith}
+use Rattle.std.proofs.Common.{ℕ, zero, suc, ◌+◌, ◌-◌, ◌<◌, ◌≤◌, ◌≡◌, refl, sym, ap, subst, ◌∙◌, List, [], ◌∷◌, ◌++◌, Option, None, Some, IsSome, IsNone, ◌↔◌, length, take, drop, length-drop, arith}
 use Rattle.std.proofs.lemmas.List.{length-take, length-take-le, take-append-le}
 use Rattle.std.proofs.Math.Seq.{take-append-add}
 use Rattle.std.proofs.KnownBytes.{Consumes-trans}
@@ -50,6 +50,18 @@ bytes_by before between after text part at room (Bytes (suc n)) {next} h most e 
     let joined = front_joined at (suc n) room text part h (most (suc n) refl) in
     subst (λ m. Consumes before after (take m (put_mid at room text part))) is
     (subst (Consumes before after) joined (Consumes-trans before between after _ _ bytes given.0))
+
+-- where the reads go on, none failed
+none_by : {E : Type 0} (why : Option E) (at : ℕ) (answer : Answer) {next : ℕ} → On next ≡ turn_of at answer → (IsSome why ↔ (answer ≡ Unread)) → IsNone why
+none_by why at Unread e h = let z : ◌≡◌ {A = ℕ} 0 1 = cc in absurd (omega arith)
+none_by None at (Bytes n) e h = refl
+none_by (Some x) at (Bytes n) e h = let z : Bytes n ≡ Unread = h.0 refl in absurd (bytes-read z)
+  where
+    bytes-read : {n : ℕ} → Bytes n ≡ Unread → ⊥
+    bytes-read z = let y : ◌≡◌ {A = ℕ} 0 1 = cc in absurd (omega arith)
+
+pub none_on : {E : Type 0} (why : Option E) {at next : ℕ} {answer : Answer} {turn : Turn} → TurnTold at answer turn → turn ≡ On next → (IsSome why ↔ (answer ≡ Unread)) → IsNone why
+none_on why t e h = none_by why _ _ (sym e ∙ t.is) h
 
 module _ {text₀ text : List ℕ} {at : ℕ} (r : Reaching text₀ text at) where
   -- by what the read answered

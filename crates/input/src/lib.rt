@@ -2,7 +2,7 @@
 
 #![tactic(auto)]
 
-ghost use Rattle.std.specs.Prelude.{length, IsTrue, IsErr, IsSome, ◌≡◌};
+ghost use Rattle.std.specs.Prelude.{length, IsTrue, IsErr, IsSome, ◌≡◌, ◌↔◌};
 ghost use Rattle.std.specs.Io.KnownBytes.{ReadConsumes};
 ghost use Rattle.input.specs.Reads.{ReadInto, BytesRead};
 ghost use Rattle.input.specs.inner.Told.{number_of, Bounded, AnswerTold, Answered, BytesGiven, Within, TurnTold};
@@ -70,11 +70,11 @@ fn interrupted(moved: io::Result<usize>) -> bool
     }
 }
 
-// One read. Where a signal interrupts it, it is made again, at most 1,000 times. Of a read that failed, why.
+// One read. Where a signal interrupts it, it is made again, at most 1,000 times. `why` is the error of one that failed.
 fn read_some<R: Read>(from: &mut R, part: &mut [u8], why: &mut Option<Error>) -> Answer
     ensures answered { Answered (length part.old) result }
     ensures bytes { BytesGiven (R.remaining from.old) (R.remaining from.new) part.new result }
-    ensures why { result ≡ Answer.Unread → IsSome why.new }
+    ensures why { IsSome why.new ↔ (result ≡ Answer.Unread) }
 {
     let mut moved = from.read(part);
     let mut again: u32 = 0;
@@ -90,12 +90,13 @@ fn read_some<R: Read>(from: &mut R, part: &mut [u8], why: &mut Option<Error>) ->
     answer_of(moved, part)
 }
 
-// Where a read failed, `why` is its error.
+// `why` is the error of the read that failed, if one did.
 pub fn read_all<R: Read>(from: &mut R, text: &mut [u8], why: &mut Option<Error>) -> Input
     ensures read { ReadInto (length text.old) result }
     ensures bytes { BytesRead (R.remaining from.old) (R.remaining from.new) text.new result }
-    ensures why { result ≡ Input.Failed → IsSome why.new }
+    ensures why { IsSome why.new ↔ (result ≡ Input.Failed) }
 {
+    *why = None;
     let mut at = 0;
     while at < text.len() {
         let answer = read_some(from, &mut text[at..], why);
