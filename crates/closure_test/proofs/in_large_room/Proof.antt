@@ -4,8 +4,8 @@ use Rattle.closure_test.proofs.Compared.{inside, width, roomy}
 use Rattle.closure_test.proofs.in_large_room.Statement.{statement}
 use Rattle.closure_test.proofs.in_large_room.Tie as tie
 
-pub in-large-room-spec : {M : Type 1} → statement M
-in-large-room-spec =
+pub in_large_room_spec : {M : Type 1} → statement M
+in_large_room_spec =
     tie.close
     (tie.spec
     (λ c κs. search rules)

@@ -8,8 +8,8 @@ use Rattle.closure_test.proofs.in_room.Tie as tie
 answer : tie.Need-returns
 answer c = search compared
 
-pub in-room-spec : {M : Type 1} → statement M
-in-room-spec =
+pub in_room_spec : {M : Type 1} → statement M
+in_room_spec =
     tie.close
     (tie.spec
     (λ c κs. search ready)

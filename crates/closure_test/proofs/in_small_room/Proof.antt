@@ -4,8 +4,8 @@ use Rattle.closure_test.proofs.Compared.{inside, width, roomy}
 use Rattle.closure_test.proofs.in_small_room.Statement.{statement}
 use Rattle.closure_test.proofs.in_small_room.Tie as tie
 
-pub in-small-room-spec : {M : Type 1} → statement M
-in-small-room-spec =
+pub in_small_room_spec : {M : Type 1} → statement M
+in_small_room_spec =
     tie.close
     (tie.spec
     (λ c κs. search rules)

@@ -21,9 +21,7 @@ close_range_spec =
     (λ c. search refused)
     -- the eliminations
     (λ c κs. search best_ready)
-    (λ c κs.
-    let found : tie.After-check_range-checked = search rules in
-    let fit : tie.In-Fit-2 = search rules in worst_ready found.check-range.ensures fit.checked.given.1)
+    (λ c κs. worst_ready c.check_range-checked.ensures c.in-Fit.is)
     (λ c. search rules)
     (λ c. search rules)
     closes)

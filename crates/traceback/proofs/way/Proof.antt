@@ -35,7 +35,7 @@ way_spec =
     (λ c κs.
     let k : tie.After-is_closed = search rules in
     let checks : tie.After-check-checked = search rules in
-    sought checks.check.ensures _ (search rules) k.is-closed.result (search rules) (search rules) (search rules) k.is-closed.ensures (search rules))
+    sought checks.check-checked.ensures _ (search rules) k.is_closed.result (search rules) (search rules) (search rules) k.is_closed.ensures (search rules))
     (λ c. search rules)
     (λ c.
-    let k : tie.After-find-arg-1 = search rules in search (given, tests, told_not, lt-leb, other_than, k.before.if5.left) depth 12))
+    let k : tie.After-find-arg-1 = search rules in search (given, tests, told_not, lt-leb, other_than, k.if-closed-from.false) depth 12))

@@ -32,5 +32,5 @@ above_spec =
     (λ c.
     let taken : tie.After-word invariant-loop decreases-loop = search rules in
     let turn : tie.In-loop-p invariant-loop decreases-loop = search rules in
-    seeing_goes_on turn.before.loop.inv _ (search rules) taken.word.ensures refl)
+    seeing_goes_on turn.loop-p.invariant _ (search rules) taken.word.ensures refl)
     (λ c. search seeing_ends))

@@ -17,7 +17,7 @@ one_stretch : tie.Need-loop-i-preserved invariant-loop decreases-loop
 one_stretch c =
     let taken : tie.After-some_better-found invariant-loop decreases-loop = search rules in
     let turn : tie.At-loop-i invariant-loop decreases-loop = search rules in
-    walk_goes_on turn.loop.inv (search rules) _ taken.some-better.ensures refl
+    walk_goes_on turn.loop-i.invariant (search rules) _ taken.some_better-found.ensures refl
 
 ends : tie.Need-returns invariant-loop decreases-loop
 ends c = search walk_ends

@@ -18,7 +18,7 @@ one_word : tie.Need-loop-p-preserved invariant-loop decreases-loop
 one_word c =
     let taken : tie.After-is_better-found invariant-loop decreases-loop = search rules in
     let turn : tie.At-loop-p invariant-loop decreases-loop = search rules in
-    compare_goes_on turn.loop.inv _ (search rules) taken.is-better.ensures refl
+    compare_goes_on turn.loop-p.invariant _ (search rules) taken.is_better-found.ensures refl
 
 pub some_better_spec : {M : Type 1} → statement M
 some_better_spec =

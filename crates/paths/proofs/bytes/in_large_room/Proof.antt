@@ -8,8 +8,8 @@ use Rattle.paths.proofs.bytes.in_large_room.Tie as tie
 left : tie.Need-returns
 left c = search written
 
-pub in-large-room-spec : {M : Type 1} → statement M
-in-large-room-spec =
+pub in_large_room_spec : {M : Type 1} → statement M
+in_large_room_spec =
     tie.close
     (tie.spec
     -- the room's front

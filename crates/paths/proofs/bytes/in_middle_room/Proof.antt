@@ -8,8 +8,8 @@ use Rattle.paths.proofs.bytes.in_middle_room.Tie as tie
 left : tie.Need-returns
 left c = search written
 
-pub in-middle-room-spec : {M : Type 1} → statement M
-in-middle-room-spec =
+pub in_middle_room_spec : {M : Type 1} → statement M
+in_middle_room_spec =
     tie.close
     (tie.spec
     -- the room's front

@@ -8,8 +8,8 @@ use Rattle.paths.proofs.bytes.in_small_room.Tie as tie
 left : tie.Need-returns
 left c = search written
 
-pub in-small-room-spec : {M : Type 1} → statement M
-in-small-room-spec =
+pub in_small_room_spec : {M : Type 1} → statement M
+in_small_room_spec =
     tie.close
     (tie.spec
     -- the room's front

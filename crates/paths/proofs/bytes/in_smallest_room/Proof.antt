@@ -4,8 +4,8 @@ use Rattle.paths.proofs.Rooms.{written_strided}
 use Rattle.paths.proofs.bytes.in_smallest_room.Statement.{statement}
 use Rattle.paths.proofs.bytes.in_smallest_room.Tie as tie
 
-pub in-smallest-room-spec : {M : Type 1} → statement M
-in-smallest-room-spec =
+pub in_smallest_room_spec : {M : Type 1} → statement M
+in_smallest_room_spec =
     tie.close
     (tie.spec
     (λ c κs. search rules)
