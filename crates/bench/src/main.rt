@@ -7,9 +7,10 @@ ghost use Rattle.std.specs.Prelude.{◌≡◌, length};
 ghost use Rattle.sheet_form.specs.Sheet.{sheet_of};
 ghost use Rattle.bench.specs.Printed.{ToPrint, InRoom};
 
+use failure::tell;
 use input::{Input, read_all};
-use libc::STDOUT_FILENO;
 use sheet::{PAGE_BYTES, print_whole};
+use std::io::Print;
 
 // Room for a text at the limit and one byte more, so that a longer one can be told.
 fn text_room() -> [u8; 65537]
@@ -19,42 +20,44 @@ fn text_room() -> [u8; 65537]
 }
 
 // Writes the sheet of a text, whole.
-fn write(text: &[u8], sheet: &[u8])
+fn write(rt: &HostRuntime, text: &[u8], sheet: &[u8])
     requires { sheet.now ≡ sheet_of text.now }
 {
-    let written = io::write_all(STDOUT_FILENO, sheet);
-    if !written {
-        os::fail(b"write");
+    if let Err(why) = rt.write_all(sheet) {
+        tell(rt, "write", why);
     }
 }
 
 // Prints the sheet of an input that was read into a text: of the part that is all of it, or that decides its sheet.
-fn print(input: Input, text: &[u8], part: &[u8])
+fn print(rt: &HostRuntime, input: Input, text: &[u8], part: &[u8])
     requires { ToPrint text.now input part.now }
 {
     let mut page = [0u8; PAGE_BYTES];
     let n = print_whole(part, &mut page);
-    write(part, &page[..n]);
+    write(rt, part, &page[..n]);
 }
 
-fn print_input(input: Input, text: &[u8])
+fn print_input(rt: &HostRuntime, input: Input, text: &[u8])
     requires { InRoom text.now input }
 {
     match input {
         Input::Ended(n) => {
-            print(input, text, &text[..n]);
+            print(rt, input, text, &text[..n]);
         }
         Input::Full => {
-            print(input, text, text);
+            print(rt, input, text, text);
         }
-        Input::Failed => {
-            os::fail(b"read");
-        }
+        Input::Failed => {}
     }
 }
 
-fn main() {
+fn main(rt: HostRuntime) {
     let mut text = text_room();
-    let input = read_all(&mut text);
-    print_input(input, &text);
+    let mut stdin = rt.stdin();
+    let mut failed = None;
+    let input = read_all(&mut stdin, &mut text, &mut failed);
+    print_input(&rt, input, &text);
+    if let Some(why) = failed {
+        tell(&rt, "read", why);
+    }
 }

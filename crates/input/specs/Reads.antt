@@ -1,5 +1,6 @@
 -- What the reads of an input come to. By POSIX a read answers -1 where it fails, 0 at the end of the input, and otherwise how many bytes it moved.
-use Rattle.std.specs.Prelude.{ℕ, zero, suc, ◌+◌, ◌<◌, ◌≤◌, List, [], ◌∷◌, ℤ, pos, negsuc, length, take}
+use Rattle.std.specs.Prelude.{ℕ, zero, suc, ◌+◌, ◌<◌, ◌≤◌, List, [], ◌∷◌, ℤ, pos, negsuc, length, take, Option, ⊤}
+use Rattle.std.specs.Io.KnownBytes.{Consumes, IsAtEnd}
 use Rattle.input.specs.declared.Answer.{Answer}
 use Rattle.input.specs.declared.Answer.TheVariants.{Bytes, Unread}
 use Rattle.input.specs.declared.Input.{Input}
@@ -32,3 +33,9 @@ pub record ReadInto (room : ℕ) (r : Input) : Type 0 where
 -- The part of a text that is all of an input read into it: only of one that ended.
 pub data WholeInput (text : List ℕ) : Input → List ℕ → Type 0 where
   whole : {n : ℕ} → n < length text → WholeInput text (Ended n) (take n text)
+
+-- The bytes that the input gave, where they are known: those of an input that ended are all that it had, and those that fill the text come first.
+abbrev pub BytesRead : Option (List ℕ) → Option (List ℕ) → List ℕ → Input → Type 0
+BytesRead before after text (Ended n) = Consumes before after (take n text) × IsAtEnd after
+BytesRead before after text Full = Consumes before after text
+BytesRead before after text Failed = ⊤

@@ -2,11 +2,13 @@
 
 #![tactic(auto)]
 
-ghost use Rattle.std.specs.Prelude.{length};
-ghost use Rattle.input.specs.Reads.{ReadInto};
-ghost use Rattle.input.specs.inner.Told.{Bounded, AnswerTold, Answered, Within, TurnTold};
+ghost use Rattle.std.specs.Prelude.{length, IsTrue, IsErr, IsSome, ◌≡◌, ◌↔◌};
+ghost use Rattle.std.specs.Io.KnownBytes.{ReadConsumes};
+ghost use Rattle.input.specs.Reads.{ReadInto, BytesRead};
+ghost use Rattle.input.specs.inner.Told.{number_of, Bounded, AnswerTold, Answered, BytesGiven, Within, TurnTold};
 
-use libc::{EINTR, STDIN_FILENO};
+use std::io;
+use std::io::{Error, ErrorKind, Read};
 
 // What reading came to.
 #[derive(Clone, Copy)]
@@ -33,14 +35,14 @@ pub enum Turn {
     Done(Input),
 }
 
-fn answer_of(moved: isize, part: &[u8]) -> Answer
-    requires { Bounded part.now moved }
-    ensures { AnswerTold moved result }
+fn answer_of(moved: io::Result<usize>, part: &[u8]) -> Answer
+    requires { Bounded part.now (number_of moved) }
+    ensures { AnswerTold (number_of moved) result }
 {
-    if moved < 0 {
+    let Ok(n) = moved else {
         return Answer::Unread;
-    }
-    Answer::Bytes(io::count(moved, part))
+    };
+    Answer::Bytes(n)
 }
 
 fn turn_of(at: usize, answer: Answer, room: usize) -> Turn
@@ -59,35 +61,45 @@ fn turn_of(at: usize, answer: Answer, room: usize) -> Turn
 }
 
 // Whether a read that answered so was interrupted by a signal.
-fn interrupted(moved: isize) -> bool {
-    if 0 <= moved {
-        return false;
+fn interrupted(moved: io::Result<usize>) -> bool
+    ensures { IsTrue result → IsErr moved }
+{
+    match moved {
+        Ok(_) => false,
+        Err(e) => e.kind() == ErrorKind::Interrupted,
     }
-    os::errno() == EINTR
 }
 
-// One read. Where a signal interrupts it, it is made again, at most 1,000 times.
-fn read_some(part: &mut [u8]) -> Answer
-    ensures { Answered (length part.old) result }
+// One read. Where a signal interrupts it, it is made again, at most 1,000 times. `why` is the error of one that failed.
+fn read_some<R: Read>(from: &mut R, part: &mut [u8], why: &mut Option<Error>) -> Answer
+    ensures answered { Answered (length part.old) result }
+    ensures bytes { BytesGiven (R.remaining from.old) (R.remaining from.new) part.new result }
+    ensures why { IsSome why.new ↔ (result ≡ Answer.Unread) }
 {
-    let mut moved = libc::read(STDIN_FILENO, part);
+    let mut moved = from.read(part);
     let mut again: u32 = 0;
     while again < 1000 {
         if !interrupted(moved) {
+            *why = moved.err();
             return answer_of(moved, part);
         }
-        moved = libc::read(STDIN_FILENO, part);
+        moved = from.read(part);
         again += 1;
     }
+    *why = moved.err();
     answer_of(moved, part)
 }
 
-pub fn read_all(text: &mut [u8]) -> Input
-    ensures { ReadInto (length text.old) result }
+// `why` is the error of the read that failed, if one did.
+pub fn read_all<R: Read>(from: &mut R, text: &mut [u8], why: &mut Option<Error>) -> Input
+    ensures read { ReadInto (length text.old) result }
+    ensures bytes { BytesRead (R.remaining from.old) (R.remaining from.new) text.new result }
+    ensures why { IsSome why.new ↔ (result ≡ Input.Failed) }
 {
+    *why = None;
     let mut at = 0;
     while at < text.len() {
-        let answer = read_some(&mut text[at..]);
+        let answer = read_some(from, &mut text[at..], why);
         let turn = turn_of(at, answer, text.len());
         match turn {
             Turn::On(next) => {

@@ -1,14 +1,14 @@
--- What is printed or told, by what reading came to.
-use Prim.Native.Nat.{ℕ, ◌<◌, ◌≤◌}
+-- What is printed, by what reading came to.
+use Prim.Native.Nat.{ℕ, ◌≤◌}
 use native.Mathlib.Omega.{arith}
 use mathlib.Core.Path.{◌≡◌}
 use mathlib.Core.List.{List}
 use lib.ListN.{length, take, length-take}
 use Rattle.input.specs.declared.Input.{Input}
-use Rattle.input.specs.declared.Input.TheVariants.{Ended, Full}
+use Rattle.input.specs.declared.Input.TheVariants.{Ended}
 use Rattle.input.specs.Reads.{ReadInto}
 use Rattle.input.proofs.Outcomes.{ended_below, ended_within, ended_whole}
-use Rattle.road.specs.Printed.{ToPrint, ToTell, InRoom}
+use Rattle.road.specs.Printed.{ToPrint, InRoom}
 
 module _ {buffer : List ℕ} {input : Input} (r : InRoom buffer input) where
   pub file_within : {n : ℕ} → input ≡ Ended n → n ≤ length buffer
@@ -19,9 +19,6 @@ module _ {buffer : List ℕ} {input : Input} (r : InRoom buffer input) where
     whole = ended_whole buffer r.read e;
     most = rw (length-take n buffer) (omega (arith, ended_below r.read e, r.room));
   }
-
-  pub file_longer : input ≡ Full → ToTell buffer input
-  file_longer e = record { full = e; longer = omega (arith, r.room) }
 
 pub in-room : (buffer : List ℕ) {room : ℕ} {input : Input} → ReadInto room input → length buffer ≡ 1048577 → room ≡ 1048577 → InRoom buffer input
 in-room buffer {room} {input} told size same =

@@ -14,4 +14,4 @@ print_road_spec =
     (λ c. search rules)
     (λ c κs. search rules)
     (λ c. search rules)
-    (λ c. let p : tie.After-print_file = search rules in (put_end p.print-file.ensures, put_page p.print-file.ensures)))
+    (λ c. let p : tie.After-print_file = search rules in (put_end p.print_file.ensures, put_page p.print_file.ensures)))
