@@ -12,7 +12,7 @@ emit_spec =
     (λ c κs.
     let start : tie.Start = search in
     let turn : tie.After-to_last = search in
-    emit_bands start.pre turn.to_last.ensures)
+    emit_bands start.requires turn.to_last.ensures)
     -- the part
     (λ c. search emit_room)
     (λ c. search emit_end)

@@ -13,9 +13,9 @@ store_spec =
     (λ c. search (sent_row, sent_point))
     (λ c. search (sent_row, sent_point))
     -- the entry's place
-    (λ c. let row : tie.Else-size-i = search in omega (arith, digits_lt row.if1.left c.if-size-k.false))
-    (λ c. let row : tie.Else-size-i = search in omega (arith, digits_lt row.if1.left c.if-size-k.false))
-    (λ c. let row : tie.Else-size-i = search in omega (arith, digits_lt row.if1.left c.if-size-k.false))
-    (λ c. let row : tie.Else-size-i = search in let point : tie.Else-size-k = search in omega (arith, digits_lt row.if1.left point.if2.left))
+    (λ c. let row : tie.Else-size-i = search in omega (arith, digits_lt row.if-size-i.false c.if-size-k.false))
+    (λ c. let row : tie.Else-size-i = search in omega (arith, digits_lt row.if-size-i.false c.if-size-k.false))
+    (λ c. let row : tie.Else-size-i = search in omega (arith, digits_lt row.if-size-i.false c.if-size-k.false))
+    (λ c. let row : tie.Else-size-i = search in let point : tie.Else-size-k = search in omega (arith, digits_lt row.if-size-i.false point.if-size-k.false))
     (λ c. search rules)
     (λ c. search sent_word))

@@ -14,19 +14,19 @@ fed_spec =
     (λ c κs. search rules)
     (λ c. search padded_own)
     (λ c κs. search rules)
-    (λ c. let apart : tie.Else-i-j = search in search (padded_row, apart.if1.left))
+    (λ c. let apart : tie.Else-i-j = search in search (padded_row, apart.if-i-j.false))
     (λ c κs. search rules)
-    (λ c. let apart : tie.Else-i-j = search in search (padded_column, apart.if1.left))
+    (λ c. let apart : tie.Else-i-j = search in search (padded_column, apart.if-i-j.false))
     -- the entry's place
-    (λ c. let row : tie.Else-size-i = search in omega (arith, digits_lt row.if2.left c.if-size-j.false))
-    (λ c. let row : tie.Else-size-i = search in omega (arith, digits_lt row.if2.left c.if-size-j.false))
-    (λ c. let row : tie.Else-size-i = search in omega (arith, digits_lt row.if2.left c.if-size-j.false))
+    (λ c. let row : tie.Else-size-i = search in omega (arith, digits_lt row.if-size-i.false c.if-size-j.false))
+    (λ c. let row : tie.Else-size-i = search in omega (arith, digits_lt row.if-size-i.false c.if-size-j.false))
+    (λ c. let row : tie.Else-size-i = search in omega (arith, digits_lt row.if-size-i.false c.if-size-j.false))
     (λ c.
     let row : tie.Else-size-i = search in
     let column : tie.Else-size-j = search in
-    omega (arith, digits_lt row.if2.left column.if3.left))
+    omega (arith, digits_lt row.if-size-i.false column.if-size-j.false))
     (λ c.
     let apart : tie.Else-i-j = search in
     let row : tie.Else-size-i = search in
     let column : tie.Else-size-j = search in
-    padded_entry apart.if1.left row.if2.left column.if3.left refl))
+    padded_entry apart.if-i-j.false row.if-size-i.false column.if-size-j.false refl))

@@ -9,7 +9,7 @@ fill_spec =
     tie.close
     (tie.spec
     (λ c κs. search fill_wraps)
-    (λ c κs. let at : tie.Start = search in (at.pre.most, at.pre.below, at.pre.early))
+    (λ c κs. let at : tie.Start = search in (at.requires.most, at.requires.below, at.requires.early))
     (λ c. search part_room)
     (λ c. search part_end)
     (λ c. search part_end)

@@ -39,8 +39,8 @@ start_spec =
     let sized : tie.Else-any_outside = search in
     let w : tie.After-words_before = search in
     let long : tie.Else-weights-words_before = search in
-    parts (search rules) (sizes_small _ _ _ (search rules) (search rules) o.any-outside.ensures sized.if7.left) one_each.if6.left long.if8.left
-    w.words-before.ensures.0)
+    parts (search rules) (sizes_small _ _ _ (search rules) (search rules) o.any_outside.ensures sized.if-any_outside.false) one_each.if-algebras-sizes.false long.if-weights-words_before.false
+    w.words_before.ensures.0)
     (λ c. search (refused, tests, pairs) depth 12)
     -- the state laid out
     (λ c. search rules)

@@ -18,7 +18,7 @@ use Rattle.array.proofs.running.run.Tie as tie
 
 -- The place where the header is known and no test was made, and what is known there.
 abbrev Known : Type 0
-Known = tie.In-Fit-2
+Known = tie.In-Fit
 
 unfoldable read : Known → tie.After-read_header
 read k = search
@@ -48,11 +48,11 @@ abbrev results : Known → List ℕ
 results k = (start k).args.results.now
 
 abbrev head : Known → Header
-head k = k.header.given.0.0
+head k = k.in-Fit.header
 
 fit : (k : Known) → HeaderFits (head k) (state k)
 unfolding read start
-fit k = header_fits (state k) (sym (read k).read-header.ensures.is ∙ k.header.given.1)
+fit k = header_fits (state k) (sym (read k).read_header.ensures.is ∙ k.in-Fit.is)
 
 abbrev table : Known → List (Bool × ℕ)
 table k = run_table (head k).order (head k).count (algebras k) (sizes k) (weights k) (scratch k) (results k)
@@ -79,17 +79,17 @@ fits e =
     let long : tie.Else-weights-words = search in
     let s : tie.After-scratch_words = search in
     let room : tie.Else-scratch-scratch_words = search in (
-      neither _ _ (same _ _ counted.if1.left) (same _ _ one_each.if2.left),
+      neither _ _ (same _ _ counted.if-sizes-count.false) (same _ _ one_each.if-algebras-count.false),
       (
-        told _ _ _ u.any-unknown.ensures named.if3.left,
+        told _ _ _ u.any_unknown.ensures named.if-any_unknown.false,
         (
-          told _ _ _ o.any-outside.ensures sized.if4.left,
+          told _ _ _ o.any_outside.ensures sized.if-any_outside.false,
           (
-            same_as _ _ _ long.if5.left w.words-before.ensures.0,
+            same_as _ _ _ long.if-weights-words.false w.words_before-words.ensures.0,
             (
-              same_as _ _ _ room.if6.left s.scratch-words.ensures,
+              same_as _ _ _ room.if-scratch-scratch_words.false s.scratch_words.ensures,
               (
-                same_as _ _ _ e.if7.false w.words-before.ensures.0,
+                same_as _ _ _ e.if-results-words.false w.words_before-words.ensures.0,
                 tt,
               ),
             ),
@@ -109,7 +109,7 @@ passed l =
     let words : tie.Else-any_above = search in
     let e : tie.Else-results-words = search in
     let (counted, (named, (sized, (long, (room, (whole, _)))))) = fits e in
-    (counted, (named, (sized, (long, (room, (whole, (told _ _ _ a.any-above.ensures words.if8.left, tt)))))))
+    (counted, (named, (sized, (long, (room, (whole, (told _ _ _ a.any_above.ensures words.if-any_above.false, tt)))))))
 
 went_on : tie.Need-proceed-requires
 unfolding start known
@@ -117,7 +117,7 @@ went_on c κs =
     let s : tie.After-smaller-made = search in
     let l : tie.After-ticks_left = search in
     let k = known l in
-    runnable (fit k) (algebras k) (sizes k) (weights k) (allowance k) (scratch k) (results k) (passed l) s.smaller.ensures l.ticks_left.ensures
+    runnable (fit k) (algebras k) (sizes k) (weights k) (allowance k) (scratch k) (results k) (passed l) s.smaller-made.ensures l.ticks_left.ensures
 
 made : tie.Need-returns
 unfolding start known
@@ -127,8 +127,8 @@ made c =
     let s : tie.After-smaller-made = search in
     let l : tie.After-ticks_left = search in
     let k = known l in
-    accepted (fit k) (algebras k) (sizes k) (weights k) (allowance k) (scratch k) (results k) (passed l) s.smaller.ensures l.ticks_left.ensures
-    went.proceed.ensures (search (cleared, end.clear.ensures, went.proceed.kept))
+    accepted (fit k) (algebras k) (sizes k) (weights k) (allowance k) (scratch k) (results k) (passed l) s.smaller-made.ensures l.ticks_left.ensures
+    went.proceed.ensures (search (cleared, end.clear.ensures, went.proceed.auto.scratch))
 
 pub run_spec : {M : Type 1} → statement M
 unfolding start there
@@ -161,7 +161,7 @@ run_spec =
     let k : Known = search in
     let counted : tie.Else-sizes-count = search in
     let o : tie.After-any_outside = search in
-    sizes_room (fit k) counted.if1.left o.any-outside.ensures c.if-any_outside.false)
+    sizes_room (fit k) counted.if-sizes-count.false o.any_outside.ensures c.if-any_outside.false)
     (λ c. search rules)
     (λ c. let k : Known = search in turned k refl refl (search (run_tests_lem, c.if-weights-words.true)) (search run_tests_lem depth 12))
     -- the scratch
@@ -180,8 +180,8 @@ run_spec =
     let w : tie.After-words_before-words = search in
     let sized : tie.Else-any_outside = search in
     let long : tie.Else-weights-words = search in
-    parts_there (fit k) counted.if1.left named.if2.left o.any-outside.ensures sized.if4.left long.if5.left
-    w.words-before.ensures.0)
+    parts_there (fit k) counted.if-sizes-count.false named.if-algebras-count.false o.any_outside.ensures sized.if-any_outside.false long.if-weights-words.false
+    w.words_before-words.ensures.0)
     (λ c. search rules)
     (λ c. let e : tie.Else-results-words = search in turned (there e) refl refl (search run_tests_lem) (fits e))
     -- the run

@@ -11,15 +11,15 @@ use Rattle.cells.proofs.settling.settle.Tie as tie
 upper : tie.Need-add_band-requires
 upper c κs =
     let start : tie.Start = search in
-    let head = start.pre.turn in
-    (some_rows head (omega arith) (omega arith) (omega arith) (omega arith) start.pre.long, omega arith)
+    let head = start.requires.turn in
+    (some_rows head (omega arith) (omega arith) (omega arith) (omega arith) start.requires.long, omega arith)
 
 lower : tie.Need-add_band-requires-2
 lower c κs =
     let one : tie.After-add_band = search in
     let start : tie.Start = search in
-    let head = start.pre.turn in
-    (some_rows head (omega arith) (omega arith) (omega arith) (omega arith) (one.add-band.ensures.size ∙ start.pre.long), omega arith)
+    let head = start.requires.turn in
+    (some_rows head (omega arith) (omega arith) (omega arith) (omega arith) (one.add_band.ensures.size ∙ start.requires.long), omega arith)
 
 returns : tie.Need-returns
 returns c =
@@ -27,10 +27,10 @@ returns c =
     let two : tie.After-add_band-2 = search in
     let one : tie.After-add_band = search in
     let start : tie.Start = search in
-    let head = start.pre.turn in
+    let head = start.requires.turn in
     let behind = pass_before start.args.n start.args.head.pass (omega arith) in
     settled_all start.args.here start.args.behind start.args.count start.args.head (omega arith)
-    one.add-band.ensures (omega arith) two.add-band2.ensures (omega arith) taken.take-rows.ensures
+    one.add_band.ensures (omega arith) two.add_band-2.ensures (omega arith) taken.take_rows.ensures
 
 pub settle_spec : {M : Type 1} → statement M
 settle_spec =

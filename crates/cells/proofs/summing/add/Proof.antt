@@ -14,7 +14,7 @@ abbrev μ : tie.decreases-loop-p
 turned : tie.Need-loop-p-preserved Inv μ
 turned c =
     let turn : tie.In-loop-p Inv μ = search in
-    goes_on turn.before.loop.inv turn.loop-test.taken c.before.product.ensures c.sum.ensures
+    goes_on turn.before.loop-p.invariant turn.loop-p-test.true c.before.product.ensures c.sum.ensures
 
 pub add_spec : {M : Type 1} → statement M
 add_spec =

@@ -11,7 +11,7 @@ at_once c =
     let here : tie.After-sums = search in
     let behind : tie.After-sums-then-sums = search in
     let added : tie.After-add = search in
-    band_added start.args.algebra start.pre.0 start.pre.1 here.sums.ensures (search) behind.sums2.ensures (search)
+    band_added start.args.algebra start.requires.0 start.requires.1 here.sums.ensures (search) behind.sums-then-sums.ensures (search)
     added.add.ensures
 
 pub add_band_spec : {M : Type 1} → statement M

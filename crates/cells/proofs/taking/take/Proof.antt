@@ -13,7 +13,7 @@ b_requires c κs =
     let start : tie.Start = search in
     let first : tie.After-a_takes = search in
     let second : tie.After-a_takes-2 = search in
-    (area_most start.pre, omega arith, search (span_end start.pre), second.a-takes2.ensures.size ∙ first.a_takes.ensures.size ∙ start.pre.long)
+    (area_most start.requires, omega arith, search (span_end start.requires), second.a_takes-2.ensures.size ∙ first.a_takes.ensures.size ∙ start.requires.long)
 
 returns : tie.Need-returns
 returns c =
@@ -24,8 +24,8 @@ returns c =
     let adds : tie.After-summed-summed = search in
     let moves : tie.After-moved-moved = search in
     let start : tie.Start = search in
-    row_took start.pre moves.moved.ensures adds.summed.ensures first.a_takes.ensures second.a-takes2.ensures
-    turned.column.ensures last.put.ensures
+    row_took start.requires moves.moved-moved.ensures adds.summed-summed.ensures first.a_takes.ensures second.a_takes-2.ensures
+    turned.column-j.ensures last.put.ensures
 
 pub take_spec : {M : Type 1} → statement M
 take_spec =

@@ -38,4 +38,4 @@ enter_spec =
     let left = copied.before.before.before.before.before in
     let spanned = left.before.before.before in
     let start = spanned.before.before.before in
-    entered_of start.requires.0 start.requires.1 spanned.moved.ensures left.enter-left.ensures copied.copy.ensures))
+    entered_of start.requires.0 start.requires.1 spanned.moved-span.ensures left.enter_left.ensures copied.copy.ensures))

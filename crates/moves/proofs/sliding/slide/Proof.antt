@@ -11,8 +11,8 @@ both_live : (c : tie.Then-live-2) → let args = c.before.before.before.before.b
 both_live c =
     let second = c.before in
     let first = second.before in
-    let here = sym first.before.live.ensures ∙ first.if1.true in
-    let behind = sym second.live2.ensures ∙ c.if-live-2.true in
+    let here = sym first.before.live.ensures ∙ first.if-live.true in
+    let behind = sym second.live-then-live.ensures ∙ c.if-live-2.true in
     record { early = omega (arith, live_early); late = omega (arith, live_late) }
 
 pub slide_spec : {M : Type 1} → statement M

@@ -13,9 +13,9 @@ stage_at_spec =
     (λ c. search rules)
     (λ c κs. search rules)
     (λ c κs. search rules)
-    (λ c. let at : tie.Start = search in let turn : tie.After-at-head = search in omega (arith, pass_there at.pre turn.at.ensures))
+    (λ c. let at : tie.Start = search in let turn : tie.After-at-head = search in omega (arith, pass_there at.requires turn.at-head.ensures))
     (λ c κs. search rules)
-    (λ c. let at : tie.Start = search in let turn : tie.After-at-head = search in omega (arith, pass_there at.pre turn.at.ensures))
+    (λ c. let at : tie.Start = search in let turn : tie.After-at-head = search in omega (arith, pass_there at.requires turn.at-head.ensures))
     (λ c κs. search rules)
     (λ c.
     let at : tie.Start = search in
@@ -23,4 +23,4 @@ stage_at_spec =
     let first : tie.After-job_of = search in
     let second : tie.After-job_of-2 = search in
     let third : tie.After-job_of-3 = search in
-    staged at.pre turn.at.ensures first.Job-of.ensures second.job-of2.ensures third.job-of3.ensures))
+    staged at.requires turn.at-head.ensures first.job_of.ensures second.job_of-2.ensures third.job_of-3.ensures))

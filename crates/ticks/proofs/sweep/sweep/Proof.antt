@@ -12,11 +12,11 @@ sweep_spec =
     (λ c κs.
     let start : tie.Start = search in
     let slid : tie.After-slide = search in
-    (slid_lent start.pre slid.slide.ensures, slid_edges start.pre slid.slide.ensures))
+    (slid_lent start.requires slid.slide.ensures, slid_edges start.requires slid.slide.ensures))
     (λ c κs.
     let start : tie.Start = search in
     let slid : tie.After-slide = search in
     let came : tie.After-enter = search in
-    came_lent start.pre slid.slide.ensures came.enter.ensures)
+    came_lent start.requires slid.slide.ensures came.enter.ensures)
     (λ c. search rules)
     (λ c. λ algebras sizes weights t r count step first second held edged. search sweep_made depth 9))

@@ -25,7 +25,7 @@ advance_spec =
     (λ c κs.
     let stage = c.before.before.before in
     let turn = stage.before.before in
-    one_asked turn.before.loop.invariant.1 turn.loop-test.true stage.Stage-at.ensures)
+    one_asked turn.before.loop-t.invariant.1 turn.loop-t-test.true stage.stage_at-stage.ensures)
     -- the next turn
     (λ c. omega arith)
     (λ c. omega arith)

@@ -19,14 +19,14 @@ returns-2 c =
     let at_if1 = c.before in
     let entry = at_if1.before in
     let args = entry.args in
-    rw (le-leb 4 args.pass at_if1.if1.false, lt-ltb args.pass (4 + 4 * args.count) c.if-pass-count.true)
+    rw (le-leb 4 args.pass at_if1.if-pass-lt4.false, lt-ltb args.pass (4 + 4 * args.count) c.if-pass-count.true)
 
 returns-3 : tie.Need-returns
 returns-3 c =
     let at_if1 = c.before in
     let entry = at_if1.before in
     let args = entry.args in
-    rw (le-leb 4 args.pass at_if1.if1.false, le-ltb args.pass (4 + 4 * args.count) c.if-pass-count.false)
+    rw (le-leb 4 args.pass at_if1.if-pass-lt4.false, le-ltb args.pass (4 + 4 * args.count) c.if-pass-count.false)
 
 pub live_spec : {M : Type 1} → statement M
 live_spec = tie.close (tie.spec returns mul_if2 add_if2 returns-2 returns-3)

@@ -13,4 +13,4 @@ sums_spec = tie.close (tie.spec
     (λ c.
     let asked = c.before in
     let args = asked.before.args in
-    c.live.ensures ∙ sums_early args.count args.pass asked.if1.false))
+    c.live.ensures ∙ sums_early args.count args.pass asked.if-pass-eq3.false))

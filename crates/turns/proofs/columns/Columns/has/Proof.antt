@@ -9,4 +9,4 @@ has_spec = tie.close (tie.spec
     (λ c.
     let asked = c.before in
     let args = asked.before.before.args in
-    rw (le-leb args.self.from args.j asked.if1.false)))
+    rw (le-leb args.self.from args.j asked.if-j-self.false)))

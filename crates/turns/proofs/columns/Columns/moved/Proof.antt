@@ -17,4 +17,4 @@ moved_spec =
     let second = c.before in
     let first = second.before in
     let start = first.before in
-    spans_told {test = live start.args.count} start.requires.1 start.requires.2 first.live.ensures second.live2.ensures c.of.ensures))
+    spans_told {test = live start.args.count} start.requires.1 start.requires.2 first.live-here.ensures second.live-behind.ensures c.of.ensures))

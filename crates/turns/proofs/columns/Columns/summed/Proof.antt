@@ -17,4 +17,4 @@ summed_spec =
     let second = c.before in
     let first = second.before in
     let start = first.before in
-    spans_told {test = sums start.args.count} start.requires.1 start.requires.2 first.sums.ensures second.sums2.ensures c.of.ensures))
+    spans_told {test = sums start.args.count} start.requires.1 start.requires.2 first.sums-here.ensures second.sums-behind.ensures c.of.ensures))
