@@ -89,14 +89,23 @@ pub decides_row : (ts : List Token) → Decides (any no_word ts) (FormDue due.Ro
 decides_row ts = record { yes = λ e f. some_other ts e (stands f); no = λ e n. n (row_stands (each_word ts e)) }
 
 -- "15"
+over_number : {a : Algebra} {n : ℕ} → OverIn a (Number n) → ⊥
+over_number = elim [ ]
+
+over_name : {a b : Algebra} → OverIn a (Name b) → ⊥
+over_name = elim [ ]
+
+over_other : {a : Algebra} → OverIn a Other → ⊥
+over_other = elim [ ]
+
 over_in_lem : (a : Algebra) (t : Token) → Limited t → Decides (over_in a t) (OverIn a t)
-over_in_lem a (Number n) h = no_is (elim [ ])
+over_in_lem a (Number n) h = no_is over_number
 over_in_lem a Over h = yes_is over_numeral
 over_in_lem Reach Dash h = yes_is dash_in_reach
 over_in_lem Distance Dash h = no_is (elim [ ])
 over_in_lem Steepest Dash h = no_is (elim [ ])
-over_in_lem a (Name b) h = no_is (elim [ ])
-over_in_lem a Other h = no_is (elim [ ])
+over_in_lem a (Name b) h = no_is over_name
+over_in_lem a Other h = no_is over_other
 
 over_in_row : {a : Algebra} {ts : List Token} → HasOver a (row ts) → SomePart (OverIn a) ts
 over_in_row (over_word s) = s

@@ -9,19 +9,14 @@ pub opening_spec : {M : Type 1} → statement M
 opening_spec =
     tie.close
     (tie.spec
-    (λ c. search rules)
     (λ c κs. search rules)
     (λ c. search (opens, tests) depth 9)
-    (λ c. search rules)
     (λ c κs. search rules)
     (λ c. search (opens, tests) depth 9)
-    (λ c. search rules)
     (λ c κs. search rules)
     (λ c. search (opens, tests) depth 9)
-    (λ c. search rules)
     (λ c κs. search rules)
     (λ c. search (opens, tests) depth 9)
-    (λ c. search rules)
     (λ c κs. search rules)
     (λ c. search (opens, tests) depth 9)
     (λ c. search (opens, tests) depth 9))

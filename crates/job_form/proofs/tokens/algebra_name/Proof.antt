@@ -9,13 +9,10 @@ pub algebra_name_spec : {M : Type 1} → statement M
 algebra_name_spec =
     tie.close
     (tie.spec
-    (λ c. search rules)
     (λ c κs. search rules)
     (λ c. search (named, tests))
-    (λ c. search rules)
     (λ c κs. search rules)
     (λ c. search (named, tests))
-    (λ c. search rules)
     (λ c κs. search rules)
     (λ c. search (named, tests) depth 9)
     (λ c. search (named, tests) depth 9))

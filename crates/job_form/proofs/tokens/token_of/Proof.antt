@@ -12,7 +12,6 @@ token_of_spec =
     (λ c κs. search rules)
     (λ c κs. search rules)
     (λ c. search token_number)
-    (λ c. search rules)
     (λ c κs. search rules)
     (λ c. search token_dash)
     (λ c κs. search rules)
