@@ -21,6 +21,6 @@ fn main() {
         println!("cargo:rustc-link-lib=static=raudvisk");
     } else {
         let path = archive.display();
-        println!("cargo:warning=no {path}: build it with rt staticlib raudvisk");
+        println!("cargo:warning=no {path}: build it with host/archive");
     }
 }

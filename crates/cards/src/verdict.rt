@@ -3,7 +3,8 @@ ghost use Rattle.std.specs.Prelude.{◌≡◌, length, take};
 ghost use Rattle.memory.specs.Lists.{same};
 ghost use Rattle.cards.specs.Verdict.{verdict_of};
 
-use libc::STDOUT_FILENO;
+use std::io;
+use std::io::Print;
 use text::equal;
 
 fn verdict(passed: bool) -> [u8; 6]
@@ -15,15 +16,15 @@ fn verdict(passed: bool) -> [u8; 6]
     [b'w', b'r', b'o', b'n', b'g', b'\n']
 }
 
-pub fn tell(card: &[u8], passed: bool) {
-    io::write_all(STDOUT_FILENO, card);
-    io::write_all(STDOUT_FILENO, &verdict(passed));
+pub fn tell(rt: &HostRuntime, card: &[u8], passed: bool) -> io::Result<()> {
+    rt.write_all(card)?;
+    rt.write_all(&verdict(passed))
 }
 
 // Of a card that expects what is wrong, by the same words: one that comes out right shows against the stored output.
-pub fn tell_wrong(card: &[u8], passed: bool) {
-    io::write_all(STDOUT_FILENO, b"must be wrong: ");
-    tell(card, passed);
+pub fn tell_wrong(rt: &HostRuntime, card: &[u8], passed: bool) -> io::Result<()> {
+    rt.write_all(b"must be wrong: ")?;
+    tell(rt, card, passed)
 }
 
 // Whether the page's first bytes are the text.

@@ -7,8 +7,7 @@ use refusals::number;
 use starting::{start, start_number};
 
 // It returns 0, or the refusal's number, and then leaves the state as it was.
-#[unsafe(no_mangle)]
-pub extern "C" fn array_start(
+pub fn array_start(
     algebras: &[u16],
     order: usize,
     sizes: &[u16],
@@ -22,8 +21,7 @@ pub extern "C" fn array_start(
 }
 
 // It returns 0 and writes the ticks made, or returns the refusal's number, and then leaves all as it was.
-#[unsafe(no_mangle)]
-pub extern "C" fn array_run(
+pub fn array_run(
     state: &mut [u16],
     algebras: &[u16],
     sizes: &[u16],

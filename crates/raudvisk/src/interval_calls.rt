@@ -4,8 +4,7 @@ ghost use Rattle.ranges.specs.Given.{RangeGiven};
 use interval::{close_range, range_number};
 
 // It returns 0, or the refusal's number, and then leaves both results as they were.
-#[unsafe(no_mangle)]
-pub extern "C" fn interval_close_range(
+pub fn interval_close_range(
     algebra: u32,
     size: usize,
     best: &[u16],

@@ -1,4 +1,4 @@
-// The calls for other languages, in one archive.
+// The calls for other languages.
 
 #![tactic(auto)]
 

@@ -4,8 +4,7 @@ ghost use Rattle.paths.specs.EliminatedBytes.{EliminatedBytes};
 use paths::eliminate_bytes;
 
 // It returns 0, or the refusal's number, and then leaves the result as it was.
-#[unsafe(no_mangle)]
-pub extern "C" fn paths_eliminate(algebra: u32, size: usize, weights: &[u8], res: &mut [u8]) -> u32
+pub fn paths_eliminate(algebra: u32, size: usize, weights: &[u8], res: &mut [u8]) -> u32
     ensures { EliminatedBytes result algebra size weights.now res.old res.new }
 {
     eliminate_bytes(algebra, size, weights, res)

@@ -6,8 +6,7 @@ use refusals::number;
 use road_text::{RoadAnswer, read_road};
 
 // It returns 0 and writes POINTS, or returns the refusal's number, and then leaves `points` as it was.
-#[unsafe(no_mangle)]
-pub extern "C" fn road_read(file: &[u8], table: &mut [u16], points: &mut usize) -> u32
+pub fn road_read(file: &[u8], table: &mut [u16], points: &mut usize) -> u32
     ensures { RoadReadHost (length table.old) file.now result points.old points.new table.new }
 {
     let answer = read_road(file, table);

@@ -6,8 +6,7 @@ ghost use Rattle.sheet_form.specs.Sheet.{sheet_of};
 use sheet::print_sheet;
 
 // It prints as much of the sheet as there is room for, and returns how many bytes.
-#[unsafe(no_mangle)]
-pub extern "C" fn sheet_print(text: &[u8], page: &mut [u8]) -> usize
+pub fn sheet_print(text: &[u8], page: &mut [u8]) -> usize
     ensures outcome { result ≡ min (length page.old) (length (sheet_of text.now)) }
     ensures memory { page.new ≡ overwritten (sheet_of text.now) page.old }
 {

@@ -5,8 +5,7 @@ use refusals::number;
 use traceback::{WayAnswer, way};
 
 // It returns 0 and writes the way's length, or returns the refusal's number, and then leaves list and length as they were.
-#[unsafe(no_mangle)]
-pub extern "C" fn traceback_way(
+pub fn traceback_way(
     algebra: u32,
     size: usize,
     links: &[u16],

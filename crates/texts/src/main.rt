@@ -7,18 +7,19 @@ mod cases;
 mod limits;
 mod print;
 
-use libc::STDIN_FILENO;
+use std::io;
+use std::io::Read;
 
-fn main() {
-    let mut input = io::large_buffer();
-    let n = io::read_full(STDIN_FILENO, &mut input);
-    cases::all(&input[..n]);
-    limits::longest();
-    limits::too_long();
-    limits::few_algebras();
-    limits::many_algebras();
-    limits::few_sizes();
-    limits::many_sizes();
-    limits::few_weights();
-    limits::many_weights();
+fn main(rt: HostRuntime) -> io::Result<()> {
+    let mut input = Vec::new(rt.alloc());
+    rt.stdin().read_to_end(&mut input)?;
+    cases::all(&rt, &input)?;
+    limits::longest(&rt)?;
+    limits::too_long(&rt)?;
+    limits::few_algebras(&rt)?;
+    limits::many_algebras(&rt)?;
+    limits::few_sizes(&rt)?;
+    limits::many_sizes(&rt)?;
+    limits::few_weights(&rt)?;
+    limits::many_weights(&rt)
 }
