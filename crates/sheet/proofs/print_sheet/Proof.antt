@@ -16,4 +16,4 @@ print_sheet_spec =
     (λ c. search rules)
     (λ c κs. search rules)
     (λ c. search rules)
-    (λ c. let p : tie.After-print_text = search rules in (put_end p.print-text.ensures, put_page p.print-text.ensures)))
+    (λ c. let p : tie.After-print_text = search rules in (put_end p.print_text.ensures, put_page p.print_text.ensures)))
