@@ -55,14 +55,28 @@ pub fn few_sizes(rt: &HostRuntime) -> io::Result<()> {
     let mut algebras = [9u16; 16];
     let mut sizes = [9u16; 15];
     let mut weights = [9u16; 16384];
-    cases::one(rt, b"15 sizes", b"x", &mut algebras, &mut sizes, &mut weights)
+    cases::one(
+        rt,
+        b"15 sizes",
+        b"x",
+        &mut algebras,
+        &mut sizes,
+        &mut weights,
+    )
 }
 
 pub fn many_sizes(rt: &HostRuntime) -> io::Result<()> {
     let mut algebras = [9u16; 16];
     let mut sizes = [9u16; 17];
     let mut weights = [9u16; 16384];
-    cases::one(rt, b"17 sizes", b"x", &mut algebras, &mut sizes, &mut weights)
+    cases::one(
+        rt,
+        b"17 sizes",
+        b"x",
+        &mut algebras,
+        &mut sizes,
+        &mut weights,
+    )
 }
 
 pub fn few_weights(rt: &HostRuntime) -> io::Result<()> {
