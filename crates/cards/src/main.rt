@@ -26,7 +26,11 @@ fn main(rt: HostRuntime) -> io::Result<()> {
     tell(&rt, b"B9: ", listing_card::listing())?;
     tell(&rt, b"B10: ", array_cards::two_jobs())?;
     tell(&rt, b"B11: ", limit_cards::all())?;
-    tell(&rt, b"elimination, B3 in bytes: ", table_cards::distance_bytes())?;
+    tell(
+        &rt,
+        b"elimination, B3 in bytes: ",
+        table_cards::distance_bytes(),
+    )?;
     tell(&rt, b"elimination, last pass: ", table_cards::last_pass())?;
     tell(
         &rt,
@@ -35,10 +39,18 @@ fn main(rt: HostRuntime) -> io::Result<()> {
     )?;
     tell(&rt, b"array, far and none: ", array_cards::far())?;
     tell(&rt, b"array, third pass: ", array_cards::third_pass())?;
-    tell(&rt, b"array, three algebras: ", array_cards::three_algebras())?;
+    tell(
+        &rt,
+        b"array, three algebras: ",
+        array_cards::three_algebras(),
+    )?;
     tell(&rt, b"array, lists of algebras: ", array_cards::algebras())?;
     tell(&rt, b"array, zero ticks: ", limit_cards::zero_ticks())?;
-    tell(&rt, b"array, two lines of scratch: ", scratch_cards::two_lines())?;
+    tell(
+        &rt,
+        b"array, two lines of scratch: ",
+        scratch_cards::two_lines(),
+    )?;
     tell(&rt, b"sheet, three algebras: ", listing_card::mixed())?;
     tell(&rt, b"way, two of one word: ", way_cards::two_ways())?;
     tell(&rt, b"way, a point to itself: ", way_cards::alone())?;

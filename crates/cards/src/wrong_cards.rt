@@ -48,7 +48,11 @@ pub fn tell_all(rt: &HostRuntime) -> io::Result<()> {
     tell_wrong(rt, b"a run's result: ", cell(0, 4, 9))?;
     tell_wrong(rt, b"a refused run: ", cell(5, 0, 9))?;
     tell_wrong(rt, b"a run's state: ", leaves(at_tick(5), 0, at_tick(6), 0))?;
-    tell_wrong(rt, b"a run's scratch: ", leaves(at_tick(5), 0, at_tick(5), 9))?;
+    tell_wrong(
+        rt,
+        b"a run's scratch: ",
+        leaves(at_tick(5), 0, at_tick(5), 9),
+    )?;
     tell_wrong(
         rt,
         b"a scratch of 2N words more: ",
