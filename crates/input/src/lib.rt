@@ -3,7 +3,6 @@
 #![tactic(auto)]
 
 ghost use Rattle.std.specs.Prelude.{length, IsTrue, IsErr, IsSome, ◌≡◌, ◌↔◌};
-ghost use Rattle.std.specs.Io.KnownBytes.{ReadConsumes};
 ghost use Rattle.input.specs.Reads.{ReadInto, BytesRead};
 ghost use Rattle.input.specs.inner.Told.{number_of, Bounded, AnswerTold, Answered, BytesGiven, Within, TurnTold};
 
