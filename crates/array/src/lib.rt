@@ -4,4 +4,4 @@
 
 mod running;
 
-pub use running::{RunAnswer, run, run_number, scratch_words, ticks_made};
+pub use running::{run, scratch_words};

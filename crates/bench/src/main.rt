@@ -3,7 +3,7 @@
 
 #![tactic(auto)]
 
-ghost use Rattle.std.specs.Prelude.{◌≡◌, length};
+ghost use Rattle.std.specs.Prelude.{◌≡◌};
 ghost use Rattle.sheet_form.specs.Sheet.{sheet_of};
 ghost use Rattle.bench.specs.Printed.{ToPrint, InRoom};
 
@@ -12,14 +12,7 @@ use input::{Input, read_all};
 use sheet::{PAGE_BYTES, print_whole};
 use std::io::Print;
 
-// Room for a text at the limit and one byte more, so that a longer one can be told.
-fn text_room() -> [u8; 65537]
-    ensures { length result ≡ 65537 }
-{
-    [0u8; 65537]
-}
-
-// Writes the sheet of a text, whole.
+// Writes the sheet of a text, whole. Not one function with the road program's: what each writes is what its own clause asks.
 fn write(rt: &HostRuntime, text: &[u8], sheet: &[u8])
     requires { sheet.now ≡ sheet_of text.now }
 {
@@ -29,6 +22,8 @@ fn write(rt: &HostRuntime, text: &[u8], sheet: &[u8])
 }
 
 // Prints the sheet of an input that was read into a text: of the part that is all of it, or that decides its sheet.
+// Not one function with the road program's: its sheet is another definition, and a full room means another thing there; both claims
+// stand by these clauses.
 fn print(rt: &HostRuntime, input: Input, text: &[u8], part: &[u8])
     requires { ToPrint text.now input part.now }
 {
@@ -41,23 +36,16 @@ fn print_input(rt: &HostRuntime, input: Input, text: &[u8])
     requires { InRoom text.now input }
 {
     match input {
-        Input::Ended(n) => {
-            print(rt, input, text, &text[..n]);
-        }
-        Input::Full => {
-            print(rt, input, text, text);
-        }
-        Input::Failed => {}
+        Input::Ended(n) => print(rt, input, text, &text[..n]),
+        Input::Full => print(rt, input, text, text),
     }
 }
 
 fn main(rt: HostRuntime) {
-    let mut text = text_room();
-    let mut stdin = rt.stdin();
-    let mut failed = None;
-    let input = read_all(&mut stdin, &mut text, &mut failed);
-    print_input(&rt, input, &text);
-    if let Some(why) = failed {
-        tell(&rt, "read", why);
+    // A text at the limit and one byte more, so that a longer one can be told.
+    let mut text = [0u8; 65537];
+    match read_all(&mut rt.stdin(), &mut text) {
+        Ok(input) => print_input(&rt, input, &text),
+        Err(why) => tell(&rt, "read", why),
     }
 }

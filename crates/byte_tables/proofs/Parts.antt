@@ -10,7 +10,6 @@ use Rattle.memory.proofs.Any.{Looking, look_begins, look_goes_on, look_ends}
 use Rattle.memory.proofs.Part.{part_length, part_word}
 use Rattle.refusals.specs.Conditions.{Words16}
 use Rattle.semiring.specs.Words.{any_above}
-use Rattle.semiring.proofs.Above.{none_above}
 use Rattle.byte_tables.specs.Bytes.{decoded}
 use Rattle.byte_tables.proofs.Words.{word_at, length_decoded, length_words_of, get_d_decoded}
 
@@ -52,6 +51,3 @@ pub decoded_16 : (bytes : List ℕ) → ((p : ℕ) → p < length bytes → get_
 decoded_16 bytes h p k =
     let e : get_or (decoded bytes) p 0 ≡ word_at bytes p = get_d_decoded bytes p (omega (arith, length_decoded bytes)) in
     omega (arith, h (2 * p) (omega (arith, length_decoded bytes)), h (2 * p + 1) (omega (arith, length_decoded bytes)))
-
-pub bytes_below : (bytes : List ℕ) → ((p : ℕ) → get_or bytes p 0 ≤ 255) → any_above 65535 (decoded bytes) ≡ false
-bytes_below bytes h = none_above 65535 (decoded bytes) (decoded_16 bytes (λ p k. h p))

@@ -4,8 +4,6 @@ use native.Mathlib.Omega.{arith}
 use mathlib.Core.Path.{◌≡◌, refl, ap, ◌∙◌}
 use mathlib.Core.List.{List}
 use lib.ListN.{length, get_or, set, take, drop}
-use mir.Syntax.{w64}
-use mir.Val.{Fits}
 use Rattle.memory.specs.Lists.{replaced}
 use Rattle.memory.proofs.Geometry.{square_fits}
 use Rattle.memory.proofs.Part.{part_length}
@@ -19,18 +17,6 @@ module _ {own n m : ℕ} (weights : List ℕ) {old : List ℕ} {at : ℕ} {l : L
   room : (2 * to ≤ length weights) × (to ≤ 16384)
   room = (omega (arith, bytes, asked.steps), omega (arith, asked.steps, square_fits asked.most))
 
-  pub from_bytes_room : Fits w64 (2 * (at + 1))
-  from_bytes_room = omega (arith, room)
-
-  pub to_bytes_room : Fits w64 (2 * to)
-  to_bytes_room = omega (arith, room)
-
-  pub bytes_order : 2 * (at + 1) ≤ 2 * to
-  bytes_order = omega arith
-
-  pub bytes_inside : 2 * to ≤ length weights
-  bytes_inside = room.0
-
   pub to_decode : length (take (2 * to - 2 * (at + 1)) (drop (2 * (at + 1)) weights)) ≡ 2 * length (take (to - (at + 1)) (drop (at + 1) (set l at own)))
   to_decode =
       let from = part_length (2 * (at + 1)) (2 * to - 2 * (at + 1)) weights (omega (arith, room)) in
@@ -38,7 +24,7 @@ module _ {own n m : ℕ} (weights : List ℕ) {old : List ℕ} {at : ℕ} {l : L
       omega (arith, from, into)
 
   pub decodes : {new : List ℕ} → new ≡ decoded (take (2 * to - 2 * (at + 1)) (drop (2 * (at + 1)) weights))
-      → Laying own n m (decoded weights) old (at + 1 + n) (replaced (at + 1) (to - (at + 1)) new (set l at own))
+      → Laying own n m (decoded weights) old (at + (n + 1)) (replaced (at + 1) (to - (at + 1)) new (set l at own))
   decodes {new} d =
       let w : ℕ = to - (at + 1) in
       let u : ℕ = 2 * to - 2 * (at + 1) in
@@ -46,5 +32,3 @@ module _ {own n m : ℕ} (weights : List ℕ) {old : List ℕ} {at : ℕ} {l : L
       let fits : 2 * (at + 1) + u ≤ length weights = omega (arith, room) in
       goes_on c asked h e new (ap length d ∙ part_size weights (at + 1) w (2 * (at + 1)) u refl width fits)
       (λ j k. ap (λ (l : List ℕ). get_or l j 0) d ∙ part_decoded weights (at + 1) w (2 * (at + 1)) u refl width fits j k)
-
-pub ruleset byte_stretch = (from_bytes_room, to_bytes_room, bytes_order, bytes_inside, to_decode)

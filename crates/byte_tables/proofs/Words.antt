@@ -1,15 +1,14 @@
 -- Words and their bytes by place.
 use Prim.Native.Nat.{ℕ, zero, suc, ◌+◌, ◌*◌, ◌/◌, ◌%◌, ◌<◌, ◌≤◌, zero-le}
 use native.Mathlib.Omega.{arith}
-use mathlib.Core.Path.{◌≡◌, refl, sym, ap, ◌∙◌}
+use mathlib.Core.Path.{◌≡◌, refl, sym, ◌∙◌}
 use mathlib.Core.List.{List, [], ◌∷◌}
 use mathlib.Core.Bool.{cond}
-use lib.ListN.{length, get_or, set}
+use lib.ListN.{length, get_or}
 use lib.Dec.{eqb}
 use lib.Seq.{ext_get_or}
-use borrow.Author.Tests.{eq-eqb, ne_eqb}
 use Rattle.memory.specs.Walked.{Walked}
-use Rattle.memory.proofs.Walk.{Walking, begins, goes_on, ends, walked_none, walked_one, walked_to}
+use Rattle.memory.proofs.Walk.{Walking, ends, walked_to}
 use Rattle.byte_tables.specs.Bytes.{decoded, encoded}
 
 -- The word whose bytes stand at 2p and 2p + 1, and the byte at place p of a memory of words.
@@ -18,16 +17,6 @@ word_at bytes p = get_or bytes (2 * p) 0 + 256 * get_or bytes (2 * p + 1) 0
 
 abbrev pub byte_at : List ℕ → ℕ → ℕ
 byte_at words p = cond (eqb (p % 2) 0) (get_or words (p / 2) 0 % 256) (get_or words (p / 2) 0 / 256)
-
-low_byte : (words : List ℕ) (p : ℕ) → byte_at words (2 * p) ≡ get_or words p 0 % 256
-low_byte words p =
-    let half : 2 * p / 2 ≡ p = omega arith in
-    rw (eq-eqb (2 * p % 2) 0 (omega arith), half)
-
-high_byte : (words : List ℕ) (p : ℕ) → byte_at words (2 * p + 1) ≡ get_or words p 0 / 256
-high_byte words p =
-    let half : (2 * p + 1) / 2 ≡ p = omega arith in
-    rw (ne_eqb ((2 * p + 1) % 2) 0 (λ e. omega arith), half)
 
 -- An odd byte at the end is no word.
 pub length_decoded : (bytes : List ℕ) → length (decoded bytes) ≡ length bytes / 2
@@ -69,13 +58,7 @@ pub record Decoding (bytes old : List ℕ) (p : ℕ) (l : List ℕ) : Type 0 whe
   pub walking : Walking (λ q word. word_at bytes q) old p l
 
 module _ {bytes old : List ℕ} where
-  pub decode_begins : Decoding bytes old 0 old
-  decode_begins = record { walking = begins }
-
   module _ {p : ℕ} {l : List ℕ} (c : Decoding bytes old p l) where
-    pub decode_goes_on : {word : ℕ} → p < length l → word ≡ word_at bytes p → Decoding bytes old (p + 1) (set l p word)
-    decode_goes_on h e = record { walking = goes_on c.walking h e }
-
     pub decode_ends : length bytes ≡ 2 * length old → length l ≤ p → l ≡ decoded bytes
     decode_ends fits h =
         let whole = ends c.walking h in
@@ -94,18 +77,6 @@ pub record Encoding (words old : List ℕ) (p : ℕ) (l : List ℕ) : Type 0 whe
   pub walked : Walked (λ q byte. byte_at words q) old (2 * p) l
 
 module _ {words old : List ℕ} where
-  pub encode_begins : Encoding words old 0 old
-  encode_begins = record { count = zero-le; walked = walked_none }
-
   module _ {p : ℕ} {l : List ℕ} (c : Encoding words old p l) (fits : length old ≡ 2 * length words) where
-    pub encode_goes_on : p < length words
-        → Encoding words old (p + 1) (set (set l (2 * p) (get_or words p 0 % 256)) (2 * p + 1) (get_or words p 0 / 256))
-    encode_goes_on h =
-        let low = walked_one (get_or words p 0 % 256) c.walked (omega arith) (sym (low_byte words p)) in
-        record {
-          count = omega arith;
-          walked = walked_to (walked_one (get_or words p 0 / 256) low (omega arith) (sym (high_byte words p))) (omega arith);
-        }
-
     pub encode_ends : length words ≤ p → l ≡ encoded words
     encode_ends h = bytes_written words (walked_to c.walked (omega (arith, c.count))) fits

@@ -6,7 +6,7 @@ ghost use Rattle.byte_tables.specs.Bytes.{decoded, encoded};
 pub fn word(low: u8, high: u8) -> u16
     ensures { result ≡ low + 256 * high }
 {
-    low as u16 + 256 * (high as u16)
+    u16::from_le_bytes([low, high])
 }
 
 // The words of the bytes.
@@ -14,10 +14,8 @@ pub fn decode(bytes: &[u8], words: &mut [u16])
     requires { length bytes.now ≡ 2 * length words.old }
     ensures { words.new ≡ decoded bytes.now }
 {
-    let mut p = 0;
-    while p < words.len() {
+    for p in 0..words.len() {
         words[p] = word(bytes[2 * p], bytes[2 * p + 1]);
-        p += 1;
     }
 }
 
@@ -26,11 +24,9 @@ pub fn encode(words: &[u16], bytes: &mut [u8])
     requires { length bytes.old ≡ 2 * length words.now }
     ensures { bytes.new ≡ encoded words.now }
 {
-    let mut p = 0;
-    while p < words.len() {
-        let word = words[p];
-        bytes[2 * p] = (word % 256) as u8;
-        bytes[2 * p + 1] = (word / 256) as u8;
-        p += 1;
+    for p in 0..words.len() {
+        let word = words[p].to_le_bytes();
+        bytes[2 * p] = word[0];
+        bytes[2 * p + 1] = word[1];
     }
 }

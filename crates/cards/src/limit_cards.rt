@@ -1,88 +1,86 @@
 // Card B11: the borders of each number, and runs that make no tick.
-use crate::array_cards::{makes, starts};
-use memory::same_words;
-use paths::{eliminate, number};
+use crate::machine::{Jobs, Machine, starts};
+use paths::eliminate;
 
 fn sizes() -> bool {
-    let weights = [0u16; 16384];
-    let mut result = [9u16; 16384];
-    let largest = number(eliminate(1, 128, &weights, &mut result)) == 0;
-    let larger = number(eliminate(1, 129, &weights, &mut result)) == 2;
-    largest & larger
+    let weights = [0; 16384];
+    let mut result = [9; 16384];
+    eliminate(1, 128, &weights, &mut result).is_ok()
+        && eliminate(1, 129, &weights, &mut result).map_err(u32::from) == Err(2)
+}
+
+// What a start of an array of one cell answers, but for the order of its list.
+fn cell(algebras: &[u16], sizes: &[u16], weights: &[u16]) -> Result<(), u32> {
+    let jobs = Jobs {
+        algebras,
+        order: 1,
+        sizes,
+        weights,
+    };
+    starts(&jobs, &mut [9; 7])
 }
 
 fn orders() -> bool {
-    let weights = [0u16; 1024];
-    let mut state = [9u16; 3076];
-    let largest = starts(&[1u16], 32, &[32u16], &weights, &mut state, 0);
-    let larger = starts(&[1u16], 33, &[32u16], &weights, &mut state, 6);
-    largest & larger
+    let mut jobs = Jobs {
+        algebras: &[1],
+        order: 32,
+        sizes: &[32],
+        weights: &[0; 1024],
+    };
+    let mut state = [9; 3076];
+    let largest = starts(&jobs, &mut state);
+    jobs.order = 33;
+    largest == Ok(()) && starts(&jobs, &mut state) == Err(6)
 }
 
 fn counts() -> bool {
-    let mut state = [9u16; 7];
-    let most = starts(&[1u16; 16], 1, &[1u16; 16], &[0u16; 16], &mut state, 0);
-    let more = starts(&[1u16; 17], 1, &[1u16; 17], &[0u16; 17], &mut state, 7);
-    most & more
+    cell(&[1; 16], &[1; 16], &[0; 16]) == Ok(()) && cell(&[1; 17], &[1; 17], &[0; 17]) == Err(7)
 }
 
 fn words() -> bool {
-    let mut result = [9u16; 1];
-    let mut state = [9u16; 7];
-    let table = number(eliminate(0, 1, &[2u16], &mut result)) == 5;
-    let list = starts(&[0u16], 1, &[1u16], &[2u16], &mut state, 5);
-    // the word of a reach job alone counts, wherever it stands
-    let beside = starts(&[1u16, 0], 1, &[1u16; 2], &[2u16, 1], &mut state, 0);
-    let second = starts(&[1u16, 0], 1, &[1u16; 2], &[2u16, 2], &mut state, 5);
-    table & list & beside & second
+    eliminate(0, 1, &[2], &mut [9]).map_err(u32::from) == Err(5)
+        && cell(&[0], &[1], &[2]) == Err(5)
+        // the word of a reach job alone counts, wherever it stands
+        && cell(&[1, 0], &[1, 1], &[2, 1]) == Ok(())
+        && cell(&[1, 0], &[1, 1], &[2, 2]) == Err(5)
 }
 
 // Allowance 0, and a finished array given 5.
 fn no_ticks() -> bool {
-    let a = [1u16];
-    let n = [1u16];
-    let w = [7u16];
-    let mut state = [9u16; 7];
-    let mut scratch = [9u16; 2];
-    let mut r = [9u16; 1];
-    let started = starts(&a, 1, &n, &w, &mut state, 0);
-    let none = makes(&mut state, &a, &n, &w, 0, &mut scratch, &mut r, 0, &[9u16]);
-    let all = makes(
-        &mut state,
-        &a,
-        &n,
-        &w,
-        65535,
-        &mut scratch,
-        &mut r,
-        4,
-        &[0u16],
-    );
-    let finished = makes(&mut state, &a, &n, &w, 5, &mut scratch, &mut r, 0, &[0u16]);
-    started & none & all & finished
+    let jobs = Jobs {
+        algebras: &[1],
+        order: 1,
+        sizes: &[1],
+        weights: &[7],
+    };
+    let mut array = Machine {
+        state: &mut [9; 7],
+        scratch: &mut [9; 2],
+        results: &mut [9; 1],
+    };
+    array.start(&jobs) == Ok(())
+        && array.makes(&jobs, 0, 0, &[9])
+        && array.makes(&jobs, 65535, 4, &[0])
+        && array.makes(&jobs, 5, 0, &[0])
 }
 
-// A run of one job of size 2 on an array of order 2 that makes no tick and changes no result; it leaves the given state, and
-// the scratch full of the given word.
-pub fn leaves(before: [u16; 16], allowance: u16, after: [u16; 16], word: u16) -> bool {
-    let held = [9u16, 8, 7, 6];
-    let mut state = before;
-    let mut scratch = [9u16; 4];
-    let mut r = held;
-    let n = [2u16];
-    let w = [0u16, 5, 65535, 0];
-    let ran = makes(
-        &mut state,
-        &[1u16],
-        &n,
-        &w,
-        allowance,
-        &mut scratch,
-        &mut r,
-        0,
-        &held,
-    );
-    ran & same_words(&state, &after) & same_words(&scratch, &[word; 4])
+// One job of size 2 for an array of order 2.
+const PAIR: Jobs<'static> = Jobs {
+    algebras: &[1],
+    order: 2,
+    sizes: &[2],
+    weights: &[0, 5, 65535, 0],
+};
+
+// A run of it that makes no tick and changes no result; it leaves the given state, and the scratch full of the given word.
+pub fn leaves(mut state: [u16; 16], allowance: u16, after: [u16; 16], word: u16) -> bool {
+    let mut scratch = [9; 4];
+    let mut array = Machine {
+        state: &mut state,
+        scratch: &mut scratch,
+        results: &mut [9, 8, 7, 6],
+    };
+    array.makes(&PAIR, allowance, 0, &[9, 8, 7, 6]) && state == after && scratch == [word; 4]
 }
 
 fn unchanged(state: [u16; 16], allowance: u16) -> bool {
@@ -98,13 +96,15 @@ pub fn at_tick(tick: u16) -> [u16; 16] {
 
 // Allowance 0 on a fresh state, on half-run ones and on a finished one, and allowances on a finished one.
 pub fn zero_ticks() -> bool {
-    let mut fresh = [9u16; 16];
-    let started = starts(&[1u16], 2, &[2u16], &[0u16, 5, 65535, 0], &mut fresh, 0);
-    let none = unchanged(fresh, 0) & unchanged(at_tick(5), 0) & unchanged(at_tick(10), 0);
-    let finished = unchanged(at_tick(10), 5) & unchanged(at_tick(10), 65535);
-    started & none & finished
+    let mut fresh = [9; 16];
+    starts(&PAIR, &mut fresh) == Ok(())
+        && unchanged(fresh, 0)
+        && unchanged(at_tick(5), 0)
+        && unchanged(at_tick(10), 0)
+        && unchanged(at_tick(10), 5)
+        && unchanged(at_tick(10), 65535)
 }
 
 pub fn all() -> bool {
-    sizes() & orders() & counts() & words() & no_ticks()
+    sizes() && orders() && counts() && words() && no_ticks()
 }

@@ -3,12 +3,8 @@ use crate::verdict::begins;
 use sheet::print_sheet;
 
 pub fn prints(text: &[u8], printed: &[u8]) -> bool {
-    let mut page = [0u8; 300];
-    let n = print_sheet(text, &mut page);
-    if n != printed.len() {
-        return false;
-    }
-    begins(&page, printed)
+    let mut page = [0; 300];
+    print_sheet(text, &mut page) == printed.len() && begins(&page, printed)
 }
 
 pub fn listing() -> bool {

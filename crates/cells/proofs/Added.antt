@@ -131,9 +131,8 @@ module _ {algebra : Algebra} {n count i : ℕ} {s : Turn} {r : Columns} {l l₁ 
       rw e (row_word j pass k b on.below (omega (arith, on.at))))
 
 -- Rows whose first cells are in one pass, where this pass and the one before add: no cell starts.
-module _ (algebra : Algebra) {n count from to : ℕ} {s : Turn} {old new : List ℕ} {here behind : Bool} (rows : Rows n count from to s old)
-    (near : to ≤ from + s.point + 1) (told : here ≡ sums count s.pass) (adds_here : here ≡ true)
-    (told_behind : behind ≡ sums count (s.pass - 1)) (adds_behind : behind ≡ true)
+module _ (algebra : Algebra) {n count from to : ℕ} {s : Turn} {old new : List ℕ} (rows : Rows n count from to s old)
+    (near : to ≤ from + s.point + 1) (adds_here : sums count s.pass ≡ true) (adds_behind : sums count (s.pass - 1) ≡ true)
     (adds : Spanned (added algebra (n * n) old) old (from * n) (to * n) new) where
   module _ (i j pass k : ℕ) (f : from ≤ i) (g : i < to) (b : j < n) (on : Phase n (step_of n s + from) i j pass k) where
     both : (sums count pass ≡ true) × (pass_in pass ≡ 0 → k ≡ 0 → ⊥)
@@ -148,12 +147,12 @@ module _ (algebra : Algebra) {n count from to : ℕ} {s : Turn} {old new : List 
         go : Dec (s.point - (i - from) < j) → (sums count pass ≡ true) × (pass_in pass ≡ 0 → k ≡ 0 → ⊥)
         go (yes d) =
             let (x, y) = digits_behind n z (omega (arith, rows.below)) (rows_pass rows) j pass k on.below e b d in
-            (ap (sums count) x ∙ sym told_behind ∙ adds_behind, λ v w. omega (arith, rows.below))
+            (ap (sums count) x ∙ adds_behind, λ v w. omega (arith, rows.below))
         go (no d) =
             let (x, y) = digits_here n z (omega (arith, rows.below)) (rows_pass rows) j pass k on.below e (omega arith) in
-            let (on-behind, early) = both_true (live count (s.pass - 1)) (ltb (pass_in (s.pass - 1)) 3) (sym told_behind ∙ adds_behind) in
+            let (on-behind, early) = both_true (live count (s.pass - 1)) (ltb (pass_in (s.pass - 1)) 3) adds_behind in
             let third = ltb-true (pass_in (s.pass - 1)) 3 early in
-            (ap (sums count) x ∙ sym told ∙ adds_here, λ v w. omega (arith, rows_pass rows))
+            (ap (sums count) x ∙ adds_here, λ v w. omega (arith, rows_pass rows))
 
     band_word : get_or new (i * n + j) 0 ≡ new_c algebra count pass k (words_at n old i j)
     band_word =

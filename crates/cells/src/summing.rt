@@ -14,26 +14,23 @@ fn begin(algebra: Algebra, count: usize, at: usize, s: Turn, planes: &mut [u16])
     requires { (count ≤ 16) × (at + s.point < length planes.old) }
     ensures { Begun algebra count at s planes.old planes.new }
 {
-    let pass = s.pass;
-    let k = s.point;
-    if begins(count, pass) {
-        planes[at + k] = none(algebra);
+    if begins(count, s.pass) {
+        planes[at + s.point] = none(algebra);
     }
 }
 
-// The words of c from `at` to `end`: the sum with the product of what came in.
+// The words of c from `at` to `end`: the sum with the product of what came in. The area and the planes' length are asked here, in `put` and in
+// `a_takes`: a struct that lends the planes would have its length said again after each write.
 fn add(algebra: Algebra, area: usize, at: usize, end: usize, planes: &mut [u16])
     requires { (area ≤ 1024) × (at ≤ end) × (end ≤ area) × (length planes.old ≡ 3 * area) }
     ensures { Spanned (added algebra area planes.old) planes.old at end planes.new }
 {
-    let mut p = at;
-    while p < end {
+    for p in at..end {
         planes[p] = sum(
             algebra,
             planes[p],
             product(algebra, planes[p + area], planes[p + 2 * area]),
         );
-        p += 1;
     }
 }
 
@@ -44,10 +41,8 @@ fn add_row(algebra: Algebra, n: usize, count: usize, i: usize, s: Turn, planes: 
 {
     let at = i * n;
     let summed = Columns::summed(n, count, s);
-    let left = summed.from;
-    let right = summed.to;
     begin(algebra, count, at, s, planes);
-    add(algebra, n * n, at + left, at + right, planes);
+    add(algebra, n * n, at + summed.from, at + summed.to, planes);
 }
 
 // c of the rows from ≤ i < to one by one, of which the first has turn s.
@@ -64,11 +59,9 @@ fn add_rows(
     ensures { Done (adding algebra count) n (step_of n first + from) planes.old from to planes.new }
 {
     let mut s = first;
-    let mut i = from;
-    while i < to {
+    for i in from..to {
         add_row(algebra, n, count, i, s, planes);
         s = s.back(n);
-        i += 1;
     }
 }
 
@@ -85,12 +78,9 @@ pub fn add_band(
     requires { Rows n count from to s planes.old × (to ≤ from + s.point + 1) }
     ensures { Done (adding algebra count) n (step_of n s + from) planes.old from to planes.new }
 {
-    let pass = s.pass;
-    if sums(count, pass) {
-        if sums(count, pass - 1) {
-            add(algebra, n * n, from * n, to * n, planes);
-            return;
-        }
+    if sums(count, s.pass) && sums(count, s.pass - 1) {
+        add(algebra, n * n, from * n, to * n, planes);
+    } else {
+        add_rows(algebra, n, count, from, to, s, planes);
     }
-    add_rows(algebra, n, count, from, to, s, planes);
 }

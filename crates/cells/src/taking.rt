@@ -1,12 +1,11 @@
 // What a and b take from the new c.
 ghost use Rattle.std.specs.Prelude.{◌≡◌, ◌+◌, ◌*◌, ◌≤◌, ◌<◌, length};
 ghost use Rattle.turns.specs.Turn.{step_of};
-ghost use Rattle.turns.specs.Layout.{Lent};
 ghost use Rattle.cells.specs.Work.{taking};
 ghost use Rattle.cells.specs.Rows.{Row, Done};
 ghost use Rattle.cells.specs.Settled.{Took, Column};
 
-use turns::{Columns, Turn};
+use turns::{Columns, Front, Turn};
 
 // The plane that is `plane` words after c takes c in column j of the row at `at`, where a span has j.
 fn put(area: usize, plane: usize, at: usize, j: usize, span: Columns, planes: &mut [u16])
@@ -14,8 +13,7 @@ fn put(area: usize, plane: usize, at: usize, j: usize, span: Columns, planes: &m
     ensures { Took (λ m. m) j plane at span planes.old planes.new }
 {
     if span.has(j) {
-        let p = at + j;
-        planes[plane + p] = planes[p];
+        planes[plane + (at + j)] = planes[at + j];
     }
 }
 
@@ -34,10 +32,7 @@ fn column(n: usize, i: usize, k: usize) -> usize
     requires { (n ≤ 32) × (i < n) × (k < n) }
     ensures { Column n i k result }
 {
-    if i <= k {
-        return k - i;
-    }
-    k + n - i
+    if i <= k { k - i } else { k + n - i }
 }
 
 // What a and b of row i take from c.
@@ -52,20 +47,18 @@ fn take(n: usize, count: usize, i: usize, s: Turn, planes: &mut [u16])
     let summed = Columns::summed(n, count, s);
     a_takes(area, at, k, moved, planes);
     a_takes(area, at, k + n, moved, planes);
-    let j = column(n, i, k);
-    put(area, 2 * area, at, j, summed, planes);
+    put(area, 2 * area, at, column(n, i, k), summed, planes);
 }
 
 // All rows.
-pub fn take_rows(n: usize, count: usize, head: Turn, planes: &mut [u16])
-    requires { Lent n count head planes.old }
-    ensures { Done (taking count) n (step_of n head) planes.old 0 n planes.new }
+pub fn take_rows(front: Front, planes: &mut [u16])
+    requires { length planes.old ≡ 3 * (front.n * front.n) }
+    ensures { Done (taking front.count) front.n (step_of front.n front.head) planes.old 0 front.n planes.new }
 {
+    let Front { n, count, head } = front;
     let mut s = head;
-    let mut i = 0;
-    while i < n {
+    for i in 0..n {
         take(n, count, i, s, planes);
         s = s.back(n);
-        i += 1;
     }
 }

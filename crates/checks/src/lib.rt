@@ -5,36 +5,25 @@
 ghost use Rattle.checks.specs.inner.Checks.{Checks};
 
 use refusals::Reason;
-use semiring::{Algebra, Named, from_number, has_word_above};
+use semiring::{Algebra, has_word_above};
 
-// What the checks found: nothing, and the algebra; or the first that applies.
-#[derive(Clone, Copy)]
-pub enum Checked {
-    Fit(Algebra),
-    Refused(Reason),
-}
-
-// Tests 1 to 5 of document 01, with 4 for the second table: the result, or whatever the call has in its place.
-pub fn check(algebra: u32, size: usize, links: &[u16], table: &[u16]) -> Checked
+// Tests 1 to 5 of document 01, with 4 for the second table: the result, or whatever the call has in its place. The algebra, or the first
+// that applies.
+pub fn check(algebra: u32, size: usize, links: &[u16], table: &[u16]) -> Result<Algebra, Reason>
     ensures { Checks result algebra size links.now table.now }
 {
-    let Named::Known(a) = from_number(algebra) else {
-        return Checked::Refused(Reason::AlgebraUnknown);
-    };
-    if size < 1 {
-        return Checked::Refused(Reason::SizeOutside);
-    }
-    if 128 < size {
-        return Checked::Refused(Reason::SizeOutside);
+    let a = Algebra::try_from(algebra)?;
+    if size < 1 || 128 < size {
+        return Err(Reason::SizeOutside);
     }
     if links.len() != size * size {
-        return Checked::Refused(Reason::WeightsLength);
+        return Err(Reason::WeightsLength);
     }
     if table.len() != size * size {
-        return Checked::Refused(Reason::ResultLength);
+        return Err(Reason::ResultLength);
     }
     if has_word_above(a, links) {
-        return Checked::Refused(Reason::WordAbove);
+        return Err(Reason::WordAbove);
     }
-    Checked::Fit(a)
+    Ok(a)
 }

@@ -6,12 +6,11 @@ use lib.ListN.{length, get_or}
 use lib.Dec.{eqb-suc-zero}
 use Rattle.semiring.specs.Algebra.{Word, top_of}
 use Rattle.semiring.specs.declared.Algebra.{Algebra}
-use Rattle.semiring.specs.declared.Named.{Named}
-use Rattle.semiring.specs.declared.Named.TheVariants.{Known, Unknown}
 use Rattle.closure.specs.Elimination.{eliminated}
 use Rattle.closure.specs.Tests.{elimination_table, elimination_tests, result_after}
 use Rattle.refusals.proofs.First.{Clear, none_applied, skip, clear, answers, inside, within, same, equal}
 use Rattle.semiring.proofs.Above.{none_above, words_below}
+use Rattle.std.specs.Prelude.{Option, Some as Known, None as Unknown}
 
 pub record Accepted (a : Algebra) (n : ℕ) (w r : List ℕ) : Type 0 where
   pub least : 1 ≤ n
@@ -38,7 +37,7 @@ pub accepted_result : (a : Algebra) (n : ℕ) (w r : List ℕ) → elimination_t
 accepted_result a n w r e = rw e
 
 -- A refused call leaves the result as it was.
-pub refused_result : (d : Named) (n : ℕ) (w r : List ℕ) (number : ℕ) → elimination_tests d n w r ≡ suc number
+pub refused_result : (d : Option Algebra) (n : ℕ) (w r : List ℕ) (number : ℕ) → elimination_tests d n w r ≡ suc number
     → result_after d n w r ≡ r
 refused_result Unknown n w r number e = refl
 refused_result (Known a) n w r number e = rw e (rw (eqb-suc-zero number))

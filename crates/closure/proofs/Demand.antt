@@ -6,9 +6,7 @@ use mathlib.Core.List.{List}
 use lib.ListN.{get_or}
 use Rattle.semiring.specs.Algebra.{Word}
 use Rattle.semiring.specs.declared.Algebra.{Algebra}
-use Rattle.semiring.specs.declared.Named.{Named}
 use Rattle.semiring.specs.Named.{named_of}
-use Rattle.semiring.specs.declared.Named.TheVariants.{Known, Unknown}
 use Rattle.semiring.proofs.Order.{AsGood, good_antisym, not_bettered}
 use Rattle.closure.specs.Elimination.{closure, eliminated}
 use Rattle.closure.specs.Tests.{elimination_tests, result_after}
@@ -19,6 +17,7 @@ use Rattle.closure.proofs.Ways.{unbettered, attained}
 use Rattle.closure.proofs.Simple.{simple}
 use Rattle.closure.proofs.Links.{words_links}
 use Rattle.closure.proofs.Accepted.{Accepted, accepted, accepted_result}
+use Rattle.std.specs.Prelude.{Option, Some as Known, None as Unknown}
 
 -- Of any table of words, accepted or not: some way attains each entry, and no way betters it.
 module _ (a : Algebra) (n : ℕ) (w : List ℕ) (words : (p : ℕ) → Word a (get_or w p 0)) {i j : ℕ} where
@@ -45,7 +44,7 @@ demand2 a n w r e i j hi hj =
     let input : Accepted a n w r = accepted e in
     closure_best a n w input.words hi hj
 
-best_result : (d : Named) (n : ℕ) (w r : List ℕ) → elimination_tests d n w r ≡ 0
+best_result : (d : Option Algebra) (n : ℕ) (w r : List ℕ) → elimination_tests d n w r ≡ 0
     → (a : Algebra) × (d ≡ Known a)
     × ((i j : ℕ) → i < n → j < n → Best a n w i j (get_or (result_after d n w r) (i * n + j) 0))
 unfolding eliminated

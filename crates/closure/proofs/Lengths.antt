@@ -8,7 +8,6 @@ use mathlib.Core.List.{List, [], ◌∷◌}
 use lib.ListN.{get_or}
 use Rattle.semiring.specs.Algebra.{Word, none_word_of, far}
 use Rattle.semiring.specs.declared.Algebra.TheVariants.{Distance}
-use Rattle.semiring.specs.declared.Named.TheVariants.{Known}
 use Rattle.semiring.proofs.Laws.{laws}
 use Rattle.semiring.proofs.Held.{sum_held}
 use Rattle.closure.specs.Table.{Table, entries, with_own}
@@ -21,6 +20,7 @@ use Rattle.closure.proofs.Demand.{closure_best, closure_unbettered}
 use Rattle.closure.proofs.Holds.{row_by_row_holds}
 use Rattle.closure.proofs.Links.{Links, words_links}
 use Rattle.closure.proofs.Ways.{way_word_lem}
+use Rattle.std.specs.Prelude.{Some as Known}
 
 module _ {t : Table} (links : Links Distance t) where
   linked_word : (l : List ℕ) → AllLinked t l → way_word Distance t l ≡ min (length_of t l) far

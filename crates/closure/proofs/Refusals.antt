@@ -10,11 +10,10 @@ use Rattle.refusals.specs.Tests.{first}
 use Rattle.refusals.proofs.Conditions.{applies, passes, row, none, decides_outside, decides_differ}
 use Rattle.semiring.specs.Named.{named_of, number_of}
 use Rattle.semiring.specs.declared.Algebra.{Algebra}
-use Rattle.semiring.specs.declared.Named.{Named}
-use Rattle.semiring.specs.declared.Named.TheVariants.{Known, Unknown}
 use Rattle.semiring.proofs.Numbers.{Names, named_or_above, known_below, decides_reach}
 use Rattle.closure.specs.Tests.{elimination_table, elimination_tests, result_after}
 use Rattle.closure.specs.claims.Refusals.{elimination_conditions, EliminationRefusals, EliminationKept}
+use Rattle.std.specs.Prelude.{Option, Some as Known, None as Unknown}
 
 -- The rows of an algebra that is known, with what further conditions answer after them.
 pub elimination_rows : (a : Algebra) {algebra : ℕ} → algebra ≡ number_of a → (n : ℕ) (w r : List ℕ) → Words16 w
@@ -43,7 +42,7 @@ elimination_refusals algebra n w r h = go (named_or_above algebra)
     go (inl (a, known, number)) = rw known (elimination_rows a number n w r h none)
     go (inr (unknown, above)) = rw unknown (elimination_unknown above n w r otherwise)
 
-kept_by : (d : Named) (n : ℕ) (w r : List ℕ) → (elimination_tests d n w r ≡ 0 → ⊥) → result_after d n w r ≡ r
+kept_by : (d : Option Algebra) (n : ℕ) (w r : List ℕ) → (elimination_tests d n w r ≡ 0 → ⊥) → result_after d n w r ≡ r
 kept_by Unknown n w r refused = refl
 kept_by (Known a) n w r refused = rw (ne_eqb (elimination_tests (Known a) n w r) 0 refused)
 

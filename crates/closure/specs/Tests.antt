@@ -4,9 +4,8 @@ use Rattle.refusals.specs.Tests.{first, outside}
 use Rattle.semiring.specs.Algebra.{top_of}
 use Rattle.semiring.specs.Words.{any_above}
 use Rattle.semiring.specs.declared.Algebra.{Algebra}
-use Rattle.semiring.specs.declared.Named.{Named}
-use Rattle.semiring.specs.declared.Named.TheVariants.{Known, Unknown}
 use Rattle.closure.specs.Elimination.{eliminated}
+use Rattle.std.specs.Prelude.{Option, Some as Known, None as Unknown}
 
 -- "1 algebra unknown; 2 size; 3 weights not n² words; 4 result not n² words; 5 a reach word above 1, diagonal too"
 -- of a length wanted, the lengths that the weights and the result have, and the words of the weights
@@ -22,11 +21,11 @@ elimination_table_of a n wanted weights result words =
 abbrev pub elimination_table : Algebra → ℕ → List ℕ → List ℕ → List (Bool × ℕ)
 elimination_table a n w r = elimination_table_of a n (n * n) (length w) (length r) w
 
-abbrev pub elimination_tests : Named → ℕ → List ℕ → List ℕ → ℕ
+abbrev pub elimination_tests : Option Algebra → ℕ → List ℕ → List ℕ → ℕ
 elimination_tests Unknown n w r = 1
 elimination_tests (Known a) n w r = first 0 (elimination_table a n w r)
 
 -- "Memory stays as it was" at a refusal.
-abbrev pub result_after : Named → ℕ → List ℕ → List ℕ → List ℕ
+abbrev pub result_after : Option Algebra → ℕ → List ℕ → List ℕ → List ℕ
 result_after Unknown n w r = r
 result_after (Known a) n w r = cond (eqb (elimination_tests (Known a) n w r) 0) (eliminated a n w) r

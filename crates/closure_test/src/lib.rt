@@ -3,52 +3,24 @@
 
 #![tactic(auto)]
 
-ghost use Rattle.std.specs.Prelude.{◌≡◌, length};
+ghost use Rattle.std.specs.Prelude.{◌≡◌, ◌≤◌, ◌*◌};
 ghost use Rattle.memory.specs.Lists.{same};
 ghost use Rattle.closure.specs.Elimination.{eliminated};
-ghost use Rattle.closure_test.specs.inner.Tables.{Tables, Roomy};
+ghost use Rattle.closure_test.specs.inner.Tables.{Tables};
 
 use elimination::eliminate;
 use memory::same_words;
 use semiring::Algebra;
 
-fn small_room() -> [u16; 256]
-    ensures { length result ≡ 256 }
-{
-    [0u16; 256]
-}
-
-fn large_room() -> [u16; 16384]
-    ensures { length result ≡ 16384 }
-{
-    [0u16; 16384]
-}
-
-// With room for the elimination.
-fn in_room(a: Algebra, n: usize, links: &[u16], closed: &[u16], room: &mut [u16]) -> bool
-    requires { Roomy n links.now closed.now room.old }
+// With room for CELLS words.
+fn in_room<const CELLS: usize>(a: Algebra, n: usize, links: &[u16], closed: &[u16]) -> bool
+    requires { Tables n 128 links.now closed.now × (n * n ≤ CELLS) × (CELLS ≤ 16384) }
     ensures { result ≡ same closed.now (eliminated a n links.now) }
 {
+    let mut cells = [0u16; CELLS];
+    let room = &mut cells[..n * n];
     eliminate(a, n, links, room);
     same_words(closed, room)
-}
-
-fn in_small_room(a: Algebra, n: usize, links: &[u16], closed: &[u16]) -> bool
-    requires { Tables n 16 links.now closed.now }
-    ensures { result ≡ same closed.now (eliminated a n links.now) }
-{
-    let mut room = small_room();
-    let cells = n * n;
-    in_room(a, n, links, closed, &mut room[..cells])
-}
-
-fn in_large_room(a: Algebra, n: usize, links: &[u16], closed: &[u16]) -> bool
-    requires { Tables n 128 links.now closed.now }
-    ensures { result ≡ same closed.now (eliminated a n links.now) }
-{
-    let mut room = large_room();
-    let cells = n * n;
-    in_room(a, n, links, closed, &mut room[..cells])
 }
 
 // Whether every word of `closed` is that of the links' elimination.
@@ -57,7 +29,8 @@ pub fn is_closed(a: Algebra, n: usize, links: &[u16], closed: &[u16]) -> bool
     ensures { result ≡ same closed.now (eliminated a n links.now) }
 {
     if n <= 16 {
-        return in_small_room(a, n, links, closed);
+        in_room::<256>(a, n, links, closed)
+    } else {
+        in_room::<16384>(a, n, links, closed)
     }
-    in_large_room(a, n, links, closed)
 }

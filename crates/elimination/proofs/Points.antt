@@ -48,22 +48,20 @@ module _ {a : Algebra} {n k : ℕ} {old via next l : List ℕ} (c : Closing a n 
   pub room_next : 128 ≡ length next
   room_next = sym c.next_room
 
-  pub goes_on : {via' next' new : List ℕ} → k + 1 < n → PassedTwice a n k l new → length via' ≡ length via → length next' ≡ length next
-      → length new ≡ length l → Closing a n old via' next' (k + 2) new
-  goes_on below passed via_kept next_kept kept = record {
+  pub goes_on : {k' : ℕ} {via' next' new : List ℕ} → k' ≡ k + 2 → k + 1 < n → PassedTwice a n k l new → length via' ≡ length via
+      → length next' ≡ length next → length new ≡ length l → Closing a n old via' next' k' new
+  goes_on e below passed via_kept next_kept kept = record {
     count = omega arith;
     via_room = via_kept ∙ c.via_room;
     next_room = next_kept ∙ c.next_room;
     square = record { most = c.square.most; words = kept ∙ c.square.words };
-    holds = λ t holds. rw (passes_two a t k) (passed.holds (passes a t k) (c.holds t holds));
+    holds = λ t holds. rw (e, passes_two a t k) (passed.holds (passes a t k) (c.holds t holds));
   }
 
-  pub ends_odd : {new : List ℕ} → k < n → n ≤ k + 1 → Passed a n k l new → PassedAll a n old new
-  ends_odd below last passed =
-      let e : k + 1 ≡ n = omega arith in
-      record {
-        words = λ t holds. holds_row_by_row (rw (← passes_one a t k, e) at (passed.holds (passes a t k) (c.holds t holds)));
-      }
+  pub ends_odd : {last : ℕ} {new : List ℕ} → k ≡ last → last + 1 ≡ n → Passed a n last l new → PassedAll a n old new
+  ends_odd e e' passed = record {
+    words = λ t holds. holds_row_by_row (rw (← passes_one a t _, e') at (passed.holds (passes a t _) (rw e at (c.holds t holds))));
+  }
 
   pub ends_even : n ≤ k → PassedAll a n old l
   ends_even last = let e : k ≡ n = omega (arith, c.count) in record { words = λ t holds. holds_row_by_row (rw e at (c.holds t holds)) }

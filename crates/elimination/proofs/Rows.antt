@@ -33,6 +33,10 @@ module _ {n : ℕ} (g : List ℕ → ℕ → ℕ → ℕ) {old : List ℕ} (squa
       ∙ ap (g (row_of n old d) j) (part_word (d * n) n old (omega (arith, row_fits h, square.words)) j k)
       ∙ rw (digits_div d k, digits_mod d k)
 
+-- two rows, one after the other
+pub two_rows : {n : ℕ} {table : List ℕ} (k : ℕ) → Square n table → k + 1 < n → k * n + n + n ≤ length table
+two_rows k square below = omega (arith, row_fits below, square.words)
+
 -- Rows 0 to i - 1 of the n by n memory `old` were walked by g, and the memory is l.
 pub record RowsWalked (n : ℕ) (g : List ℕ → ℕ → ℕ → ℕ) (old : List ℕ) (i : ℕ) (l : List ℕ) : Type 0 where
   pub count : i ≤ n
@@ -44,9 +48,6 @@ module _ {n : ℕ} {g : List ℕ → ℕ → ℕ → ℕ} {old : List ℕ} where
 
   module _ (square : Square n old) where
     -- the row that is lent, with its end and its width as the code computes them
-    pub row_inside : {i : ℕ} {l : List ℕ} → RowsWalked n g old i l → i < n → i * n + n ≤ length l
-    row_inside done h = omega (arith, row_fits h, square.words, done.walked.size)
-
     pub goes_on : {i : ℕ} {l new : List ℕ} → RowsWalked n g old i l → i < n
         → (let part : List ℕ = take (i * n + n - i * n) (drop (i * n) l) in Walked (g part) part (length part) new)
         → RowsWalked n g old (i + 1) (replaced (i * n) (i * n + n - i * n) new l)
@@ -67,18 +68,19 @@ module _ {n : ℕ} {g : List ℕ → ℕ → ℕ → ℕ} {old : List ℕ} where
     pub pair_inside : {i : ℕ} {l : List ℕ} → RowsWalked n g old i l → i + 1 < n → i * n + 2 * n ≤ length l
     pair_inside done h = omega (arith, row_fits h, square.words, done.walked.size)
 
-    pub pair_goes_on : {i : ℕ} {l new : List ℕ} → RowsWalked n g old i l → i + 1 < n
+    pub pair_goes_on : {i i' : ℕ} {l new : List ℕ} → RowsWalked n g old i l → i' ≡ i + 2 → i + 1 < n
         → PairWalked n g (take (i * n + 2 * n - i * n) (drop (i * n) l)) n new
-        → RowsWalked n g old (i + 2) (replaced (i * n) (i * n + 2 * n - i * n) new l)
-    pair_goes_on {i} {l} {new} c h done =
+        → RowsWalked n g old i' (replaced (i * n) (i * n + 2 * n - i * n) new l)
+    pair_goes_on {i} {i'} {l} {new} c e h done =
         let w : ℕ = i * n + 2 * n - i * n in
         let same : w ≡ 2 * n = add-sub_cancel_left (i * n) (2 * n) in
         let fits : i * n + w ≤ length old = omega (arith, row_fits h, square.words) in
         let long : length (take w (drop (i * n) l)) ≡ w = part_length (i * n) w l (omega (arith, c.walked.size)) in
-        record {
+        rw e
+        (record {
           count = omega arith;
           walked = walked_to (walked_part w new c.walked fits (done.size ∙ long) (λ j k. at j (omega arith) (dec_lt j n))) (omega arith);
-        }
+        })
       where
         part : take (i * n + 2 * n - i * n) (drop (i * n) l) ≡ row_of n old i ++ row_of n old (i + 1)
         part =

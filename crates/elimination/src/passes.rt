@@ -1,5 +1,5 @@
-// A table closed in place, two points at a time.
-ghost use Rattle.std.specs.Prelude.{◌+◌, ◌≤◌, ◌<◌, length};
+// A table closed in place, two points at a time. The table stays a slice beside its size: docs/REVIEW.md names `close`, which takes them so.
+ghost use Rattle.std.specs.Prelude.{◌+◌, ◌*◌, ◌≤◌, ◌<◌, length};
 ghost use Rattle.elimination.specs.inner.Rows.{Square};
 ghost use Rattle.elimination.specs.inner.Passes.{RowsRelaxed, RowsRelaxedTwice, Passed, PassedTwice, PassedAll};
 
@@ -12,42 +12,33 @@ fn rows(a: Algebra, n: usize, k: usize, via: &[u16], table: &mut [u16])
     requires { Square n table.old × (k < n) × (n ≤ length via.now) }
     ensures { RowsRelaxed a n k via.now table.old table.new }
 {
-    let mut i = 0;
-    while i < n {
+    for i in 0..n {
         let at = i * n;
         let end = at + n;
         relax(a, k, via, &mut table[at..end]);
-        i += 1;
     }
 }
 
-// Every row through points k and k + 1.
+// How many pairs of rows `rows_two` walks two at a time. Compiled, two rows in one loop go in steps of eight words, one row in steps of
+// sixteen and of four: the first is faster where fewer than four words are left over.
+fn pairs_of(n: usize) -> usize
+    ensures { 2 * result ≤ n }
+{
+    if n % 8 < 4 { n / 2 } else { 0 }
+}
+
+// Every row through points k and k + 1, the first ones two rows at a time.
 fn rows_two(a: Algebra, n: usize, k: usize, via: &[u16], next: &[u16], table: &mut [u16])
     requires { Square n table.old × (k + 1 < n) × (n ≤ length via.now) × (n ≤ length next.now) }
     ensures { RowsRelaxedTwice a n k via.now next.now table.old table.new }
 {
-    let mut i = 0;
-    while i < n {
-        let at = i * n;
-        let end = at + n;
-        relax_two(a, k, via, next, &mut table[at..end]);
-        i += 1;
-    }
-}
-
-// Every row through points k and k + 1, two rows at a time.
-fn row_pairs(a: Algebra, n: usize, k: usize, via: &[u16], next: &[u16], table: &mut [u16])
-    requires { Square n table.old × (k + 1 < n) × (n ≤ length via.now) × (n ≤ length next.now) }
-    ensures { RowsRelaxedTwice a n k via.now next.now table.old table.new }
-{
-    let mut i = 0;
-    while i + 1 < n {
-        let at = i * n;
+    let pairs = pairs_of(n);
+    for pair in 0..pairs {
+        let at = 2 * pair * n;
         let end = at + 2 * n;
         relax_pair(a, n, k, via, next, &mut table[at..end]);
-        i += 2;
     }
-    if i < n {
+    for i in 2 * pairs..n {
         let at = i * n;
         let end = at + n;
         relax_two(a, k, via, next, &mut table[at..end]);
@@ -76,12 +67,6 @@ fn pass_two(a: Algebra, n: usize, k: usize, via: &mut [u16], next: &mut [u16], t
     copy(&table[at..middle], via);
     copy(&table[middle..end], next);
     relax(a, k, via, &mut next[..n]);
-    // Compiled, two rows in one loop go in steps of eight words, one row in steps of sixteen and of four: the first is faster where fewer
-    // than four words are left over.
-    if n % 8 < 4 {
-        row_pairs(a, n, k, via, next, table);
-        return;
-    }
     rows_two(a, n, k, via, next, table);
 }
 
@@ -92,12 +77,10 @@ pub fn close(a: Algebra, n: usize, table: &mut [u16])
 {
     let mut via = [0u16; 128];
     let mut next = [0u16; 128];
-    let mut k = 0;
-    while k + 1 < n {
-        pass_two(a, n, k, &mut via, &mut next, table);
-        k += 2;
+    for points in 0..n / 2 {
+        pass_two(a, n, 2 * points, &mut via, &mut next, table);
     }
-    if k < n {
-        pass(a, n, k, &mut via, table);
+    if n % 2 == 1 {
+        pass(a, n, n - 1, &mut via, table);
     }
 }

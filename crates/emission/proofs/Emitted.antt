@@ -1,6 +1,5 @@
 -- What leaves the array on a tick: a band of the last column sends the entries of one job, and the other rows send nothing.
 use Prim.Native.Nat.{ℕ, zero, suc, ◌+◌, ◌-◌, ◌*◌, ◌/◌, ◌%◌, ◌<◌, ◌≤◌}
-use native.Mathlib.Nat.{mul-le-mul_left}
 use native.Mathlib.Omega.{arith}
 use mathlib.Core.Path.{◌≡◌, refl, sym, ap, ◌∙◌}
 use mathlib.Core.Logic.{◌≢◌}
@@ -10,8 +9,6 @@ use lib.ListN.{length, get_or, set, take, drop, take-append-drop}
 use lib.Seq.{length-take-le, set-append_left, take-set-le, drop-set-add, take_at, drop_at}
 use lib.Arith.{digits_lt}
 use lib.Dec.{eqb, ltb}
-use mir.Syntax.{w64}
-use mir.Val.{Fits}
 use borrow.Author.Tests.{eq-eqb, ne_eqb, le-ltb, ltb-true}
 use Rattle.memory.specs.Lists.{replaced}
 use Rattle.memory.proofs.Any.{both_true}
@@ -25,11 +22,10 @@ use Rattle.turns.specs.declared.turn.Turn.{Turn}
 use Rattle.turns.specs.Turn.{At, live, job_in, pass_in, Phase, step_of}
 use Rattle.turns.specs.Spans.{Banded}
 use Rattle.turns.specs.Layout.{planes_in}
-use Rattle.turns.proofs.Geometry.{pass_least}
 use Rattle.turns.proofs.Turns.{on_step, on_tick, on_idle, phase_of, pass_most, pass_near, live_same}
 use Rattle.stage.specs.declared.jobs.Job.{Job}
 use Rattle.stage.specs.Found.{Found}
-use Rattle.emission.specs.Sent.{sent, sent_rows, Sending, Emitting}
+use Rattle.emission.specs.Sent.{sent, sent_rows, Emitting}
 use Rattle.emission.proofs.PlaneWords.{a_word}
 use Rattle.emission.proofs.Sent.{sent_length, sent_none, sent_one}
 
@@ -74,36 +70,6 @@ rows_one : (J : Jobs) (t : ℕ) (new : Planes) (i : ℕ) (results : List ℕ)
     → emitted_rows J t new (suc i) results ≡ emitted J t new i (emitted_rows J t new i results)
 unfolding emitted_rows
 rows_one J t new i results = refl
-
--- The last column's turn is not before the first pass.
-pub emit_bands : {n : ℕ} {head z : Turn} {job : Job} {planes results : List ℕ} → Emitting n head job planes results
-    → At n (n * head.pass + head.point + 1 - n) z → (n ≤ 32) × (z.point < n) × (1 ≤ z.pass)
-emit_bands {n} {head} {z} asked at =
-    (asked.most, at.below, pass_least n z.pass z.point at.below (omega (arith, at.at, mul-le-mul_left n asked.early)))
-
--- The job's part of the results.
-module _ {n : ℕ} {head : Turn} {job : Job} {planes results : List ℕ} (asked : Emitting n head job planes results) where
-  pub emit_room : Fits w64 (job.start * 2)
-  emit_room = omega (arith, asked.end, asked.within, asked.few)
-
-  pub emit_end : job.start ≤ job.end
-  emit_end = omega (arith, asked.end)
-
-  pub emit_there : job.end ≤ length results
-  emit_there = asked.within
-
--- The band that sends.
-pub emit_sends : {n u : ℕ} {head : Turn} {job : Job} {band : Band} {planes results : List ℕ} → Emitting n head job planes results
-    → Banded n 3 u band → Sending n job.size band planes (take (job.end - job.start) (drop job.start results))
-emit_sends {job = job} {results = results} asked banded = record {
-  most = asked.most;
-  job =
-      part_length job.start (job.end - job.start) results (omega (arith, asked.end, asked.within)) ∙ omega (arith, asked.end);
-  order = banded.order;
-  rows = banded.within;
-  points = banded.points;
-  planes_fit = asked.planes_fit;
-}
 
 -- Tick t, on which cell (0, 0) has turn `head` and cell (0, N - 1) turn z.
 module _ (algebras : List ℕ) {n : ℕ} (sizes weights : List ℕ) (t : ℕ) {head z : Turn} {job : Job} {band : Band} {planes results : List ℕ}

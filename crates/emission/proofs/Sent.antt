@@ -6,11 +6,7 @@ use mathlib.Core.List.{List}
 use mathlib.Core.Bool.{Bool, true, false, cond, ◌&&◌, and-false}
 use lib.ListN.{length, get_or, set, length-set}
 use lib.Dec.{ltb}
-use mir.Syntax.{w64}
-use mir.Val.{Fits}
 use borrow.Author.Tests.{lt-ltb, le-ltb}
-use Rattle.job_list.proofs.Fits.{area_fits}
-use Rattle.memory.proofs.Geometry.{row_fits}
 use Rattle.turns.specs.declared.band.Band.{Band}
 use Rattle.emission.specs.Sent.{sent, sent_rows, Sending}
 
@@ -62,40 +58,7 @@ module _ {n size : ℕ} {band : Band} {planes old : List ℕ} (asked : Sending n
       }
 
   module _ {i : ℕ} {l : List ℕ} (done : SentTo n size band planes old i l) where
-    pub send_ends : band.to ≤ i → l ≡ sent_rows n size band.last planes band.from (band.to - band.from) old
-    send_ends last = let e : i ≡ band.to = omega (arith, done.most) in rw e at done.rows
-
     module _ (more : i < band.to) where
-      pub send_point : i ≤ band.last
-      send_point = omega (arith, asked.points)
-
-      row : i < n
-      row = omega (arith, asked.rows)
-
-      pub area_room : Fits w64 (n * n)
-      area_room = omega (arith, area_fits asked.most)
-
-      pub row_room : Fits w64 (i * n)
-      row_room = omega (arith, area_fits asked.most, row_fits row)
-
-      pub last_there : 1 ≤ n
-      last_there = omega (arith, row)
-
-      pub column_room : Fits w64 (i * n + (n - 1))
-      column_room = omega (arith, area_fits asked.most, row_fits row)
-
-      pub word_room : Fits w64 (n * n + (i * n + (n - 1)))
-      word_room = omega (arith, area_fits asked.most, row_fits row)
-
-      pub word_scaled : Fits w64 ((n * n + (i * n + (n - 1))) * 2)
-      word_scaled = omega (arith, area_fits asked.most, row_fits row)
-
-      pub word_there : n * n + (i * n + (n - 1)) < length planes
-      word_there = omega (arith, asked.planes_fit, row_fits row)
-
-      pub send_stores : length l ≡ size * size
-      send_stores = done.kept ∙ asked.job
-
       pub send_goes_on : {l' : List ℕ} → length l' ≡ length l
           → l' ≡ sent size i (band.last - i) (get_or planes (n * n + (i * n + (n - 1))) 0) l
           → SentTo n size band planes old (i + 1) l'

@@ -33,8 +33,7 @@ fn send(n: usize, size: usize, band: Band, planes: &[u16], part: &mut [u16])
     ensures { part.new
         ≡ sent_rows n size band.last planes.now band.from (band.to - band.from) part.old }
 {
-    let mut i = band.from;
-    while i < band.to {
+    for i in band.from..band.to {
         store(
             part,
             size,
@@ -42,7 +41,6 @@ fn send(n: usize, size: usize, band: Band, planes: &[u16], part: &mut [u16])
             band.last - i,
             planes[n * n + (i * n + (n - 1))],
         );
-        i += 1;
     }
 }
 
@@ -53,7 +51,5 @@ pub fn emit(n: usize, head: Turn, job: Job, planes: &[u16], results: &mut [u16])
         → results.new ≡ emitted_rows (jobs_of algebras n sizes weights) t (planes_in n planes.now) n results.old }
 {
     let band = Band::of(n, head.to_last(n), 3);
-    let start = job.start;
-    let end = job.end;
-    send(n, job.size, band, planes, &mut results[start..end]);
+    send(n, job.size, band, planes, &mut results[job.start..job.end]);
 }

@@ -10,19 +10,15 @@ use lib.ListN.{length, get_or, set, take, drop, length-set}
 use lib.Seq.{get_or-set_same, get_or-set_other}
 use lib.Dec.{eqb, ltb}
 use borrow.Author.Tests.{eq-eqb, ne_eqb, lt-ltb, le-ltb}
-use mir.Syntax.{w64}
-use mir.Val.{Fits}
 use Rattle.semiring.specs.Algebra.{none_word_of, own_of}
 use Rattle.semiring.specs.declared.Algebra.{Algebra}
 use Rattle.closure.specs.Table.{entries}
 use Rattle.systolic.specs.Feeder.{padded_table}
-use Rattle.memory.proofs.Part.{part_length}
 use Rattle.turns.specs.declared.band.Band.{Band}
 use Rattle.turns.specs.declared.turn.Turn.{Turn}
 use Rattle.turns.specs.Turn.{pass_in, step_of}
 use Rattle.turns.specs.Spans.{Banded}
 use Rattle.moves.specs.Edges.{Wrapped}
-use Rattle.moves.specs.Lent.{WithEdges}
 use Rattle.stage.specs.declared.jobs.Job.{Job}
 use Rattle.feeding.specs.Filled.{Padded, Feeding, Fed, Filling, Filled, entry_of}
 
@@ -61,30 +57,12 @@ module _ {algebra : Algebra} {n size : ℕ} {band : Band} {weights old : List �
   }
 
   module _ {x : ℕ} {l : List ℕ} (done : FedTo algebra n size band weights old x l) where
-    pub feed_ends : band.to ≤ x → Fed algebra n size band weights old l
-    feed_ends last = let e : x ≡ band.to = omega (arith, done.most) in rw e at done.fed
-
-    pub feed_kept : length l ≡ length old
-    feed_kept = done.fed.length_kept
-
     module _ (more : x < band.to) where
-      pub feed_point : x ≤ band.last
-      feed_point = omega (arith, asked.points)
-
-      pub feed_top_room : Fits w64 (x * 2)
-      feed_top_room = omega (arith, asked.within, asked.most)
-
-      pub feed_room : Fits w64 (n + x)
-      feed_room = omega (arith, asked.within, asked.most)
-
-      pub feed_left_room : Fits w64 ((n + x) * 2)
-      feed_left_room = omega (arith, asked.within, asked.most)
-
-      pub feed_top : x < length l
+      feed_top : x < length l
       feed_top = omega (arith, done.fed.length_kept, asked.room, asked.within)
 
       -- after the top's word
-      pub feed_left : (v : ℕ) → n + x < length (set l x v)
+      feed_left : (v : ℕ) → n + x < length (set l x v)
       feed_left v = omega (arith, length-set l x v, done.fed.length_kept, asked.room, asked.within)
 
       -- one cell more of both edges
@@ -135,32 +113,7 @@ module _ {algebra : Algebra} {n size : ℕ} {band : Band} {weights old : List �
 
 -- The array's own words at the edges, then a band of fed entries over them.
 module _ {n : ℕ} {head : Turn} {job : Job} {weights planes old : List ℕ} (asked : Filling n head job weights planes old) where
-  pub fill_wraps : WithEdges n planes old
-  fill_wraps = record { most = asked.most; wide = asked.room; long = asked.planes_fit }
-
-  pub part_room : Fits w64 (job.start * 2)
-  part_room = omega (arith, asked.end, asked.within, asked.few)
-
-  pub part_end : job.start ≤ job.end
-  part_end = omega (arith, asked.end)
-
-  pub part_there : job.end ≤ length weights
-  part_there = asked.within
-
-  pub part_width : length (take (job.end - job.start) (drop job.start weights)) ≡ job.size * job.size
-  part_width = part_length job.start (job.end - job.start) weights (omega (arith, asked.end, asked.within)) ∙ omega (arith, asked.end)
-
   module _ {band : Band} (banded : Banded n 0 (step_of n head) band) {wrapped : List ℕ} (copied : Wrapped n planes old wrapped) where
-    pub fill_feeds : Feeding n job.size band (take (job.end - job.start) (drop job.start weights)) wrapped
-    fill_feeds = record {
-      job = part_width;
-      most = asked.most;
-      within = banded.within;
-      order = banded.order;
-      points = banded.points;
-      room = omega (arith, copied.size, asked.room);
-    }
-
     module _ {edges : List ℕ} (fed : Fed job.algebra n job.size band (take (job.end - job.start) (drop job.start weights)) wrapped edges) where
       -- cell x of either edge: in the band or not
       entry_or_word : (x pass k : ℕ) {word entry own : ℕ} → x < n → k < n → n * pass + k + x ≡ step_of n head

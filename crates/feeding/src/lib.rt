@@ -33,12 +33,10 @@ fn feed(algebra: Algebra, n: usize, size: usize, weights: &[u16], band: Band, ed
     requires { Feeding n size band weights.now edges.old }
     ensures { Fed algebra n size band weights.now edges.old edges.new }
 {
-    let mut x = band.from;
-    while x < band.to {
+    for x in band.from..band.to {
         let k = band.last - x;
         edges[x] = fed(algebra, size, weights, k, x);
         edges[n + x] = fed(algebra, size, weights, x, k);
-        x += 1;
     }
 }
 
@@ -49,8 +47,12 @@ pub fn fill(n: usize, head: Turn, job: Job, weights: &[u16], planes: &[u16], edg
 {
     wrap(n, planes, edges);
     let band = Band::of(n, head, 0);
-    let algebra = job.algebra;
-    let start = job.start;
-    let end = job.end;
-    feed(algebra, n, job.size, &weights[start..end], band, edges);
+    feed(
+        job.algebra,
+        n,
+        job.size,
+        &weights[job.start..job.end],
+        band,
+        edges,
+    );
 }

@@ -8,8 +8,6 @@ use mathlib.Core.List.{List}
 use lib.ListN.{get_or}
 use Rattle.semiring.specs.Algebra.{Word, none_word_of}
 use Rattle.semiring.specs.Named.{named_of}
-use Rattle.semiring.specs.declared.Named.{Named}
-use Rattle.semiring.specs.declared.Named.TheVariants.{Known, Unknown}
 use Rattle.semiring.specs.declared.Algebra.{Algebra}
 use Rattle.semiring.specs.declared.Algebra.TheVariants.{Reach}
 use Rattle.closure.specs.Elimination.{closure}
@@ -22,6 +20,7 @@ use Rattle.homomorphism.specs.Support.{support}
 use Rattle.homomorphism.specs.claims.Agreement.{Agree, SameLinks, Checked, by_elimination, by_start, Agreement, AgreementResult}
 use Rattle.homomorphism.proofs.Commutes.{commutes}
 use Rattle.homomorphism.proofs.Support.{support_none, support_some, support_kept}
+use Rattle.std.specs.Prelude.{Option, Some as Known, None as Unknown}
 
 module _ (a : Algebra) {x y : ℕ} where
   pub support_agrees : x ≡ support a y → Agree a x y
@@ -58,7 +57,7 @@ checked_words (by_start algebras order sizes weights state e q h algebra-is size
 pub agreement : Agreement
 agreement a n reach w checked checked' = closure_agrees a n reach w (checked_words checked) (checked_words checked')
 
-result_agrees : (d : Named) (n : ℕ) (reach w r s : List ℕ)
+result_agrees : (d : Option Algebra) (n : ℕ) (reach w r s : List ℕ)
     → elimination_tests (Known Reach) n reach r ≡ 0 → elimination_tests d n w s ≡ 0
     → (a : Algebra) × (d ≡ Known a)
     × (SameLinks a n reach w

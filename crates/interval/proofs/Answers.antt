@@ -2,16 +2,14 @@
 use Prim.Native.Nat.{ℕ, ◌*◌}
 use mathlib.Core.Path.{◌≡◌, sym, ap, ◌∙◌}
 use mathlib.Core.List.{List}
+use Rattle.std.specs.Prelude.{Some, Result, Ok, Err}
+use Rattle.refusals.specs.Answer.{answer_number}
 use Rattle.refusals.specs.Reason.{reason_number}
 use Rattle.refusals.specs.declared.Reason.{Reason}
 use Rattle.refusals.proofs.Reasons.{reason_some}
 use Rattle.semiring.specs.Named.{named_of}
 use Rattle.semiring.specs.declared.Algebra.{Algebra}
-use Rattle.semiring.specs.declared.Named.TheVariants.{Known}
 use Rattle.closure.specs.Elimination.{eliminated}
-use Rattle.checks.specs.inner.Checks.{checked_number}
-use Rattle.checks.specs.declared.Checked.{Checked}
-use Rattle.checks.specs.declared.Checked.TheVariants.{Fit, Refused}
 use Rattle.table_layout.specs.LaidOut.{ToLayOut}
 use Rattle.elimination.proofs.Eliminates.{to_eliminate}
 use Rattle.ranges.specs.Tests.{range_tests}
@@ -20,11 +18,11 @@ use Rattle.ranges.proofs.Accepted.{RangeAccepted, range_accepted}
 use Rattle.ranges.proofs.Refusals.{kept}
 use Rattle.interval.specs.inner.RangeChecks.{RangeChecks}
 
-module _ {checked : Checked} {algebra n : ℕ} {best worst r s : List ℕ} (found : RangeChecks checked algebra n best worst r s) where
+module _ {checked : Result Algebra Reason} {algebra n : ℕ} {best worst r s : List ℕ} (found : RangeChecks checked algebra n best worst r s) where
   -- a test applied: both results are as they were
-  pub refused : (reason : Reason) → checked ≡ Refused reason → RangeGiven (reason_number reason) algebra n best worst r s r s
+  pub refused : (reason : Reason) → checked ≡ Err reason → RangeGiven (reason_number reason) algebra n best worst r s r s
   refused reason e =
-      let k : reason_number reason ≡ range_tests (named_of algebra) n best worst r s = sym (ap checked_number e) ∙ found.number in
+      let k : reason_number reason ≡ range_tests (named_of algebra) n best worst r s = sym (ap answer_number e) ∙ found.number in
       record {
         outcome = k;
         best_memory = sym (kept (named_of algebra) n best r (reason_some reason));
@@ -32,12 +30,12 @@ module _ {checked : Checked} {algebra n : ℕ} {best worst r s : List ℕ} (foun
       }
 
   -- none did: what each elimination asks, and what both leave
-  module _ {a : Algebra} (e : checked ≡ Fit a) where
-    known : named_of algebra ≡ Known a
+  module _ {a : Algebra} (e : checked ≡ Ok a) where
+    known : named_of algebra ≡ Some a
     known = found.fit a e
 
-    none : range_tests (Known a) n best worst r s ≡ 0
-    none = rw known at (sym found.number ∙ ap checked_number e)
+    none : range_tests (Some a) n best worst r s ≡ 0
+    none = rw known at (sym found.number ∙ ap answer_number e)
 
     input : RangeAccepted a n best worst r s
     input = range_accepted none

@@ -11,10 +11,8 @@ fn some_better(a: Algebra, words: &[u16], others: &[u16]) -> bool
     ensures { result ≡ some_betters a words.now others.now }
 {
     let mut found = false;
-    let mut p = 0;
-    while p < words.len() {
-        found = found | is_better(a, words[p], others[p]);
-        p += 1;
+    for p in 0..words.len() {
+        found |= is_better(a, words[p], others[p]);
     }
     found
 }
@@ -25,12 +23,10 @@ pub fn is_inverted(a: Algebra, n: usize, best: &[u16], worst: &[u16]) -> bool
     ensures { result ≡ inverted a n best.now worst.now }
 {
     let mut found = false;
-    let mut i = 0;
-    while i + 1 < n {
+    for i in 0..n.saturating_sub(1) {
         let from = i * n + i + 1;
         let to = from + n;
-        found = found | some_better(a, &worst[from..to], &best[from..to]);
-        i += 1;
+        found |= some_better(a, &worst[from..to], &best[from..to]);
     }
     found
 }

@@ -2,24 +2,17 @@
 
 #![tactic(auto)]
 
-ghost use Rattle.std.specs.Prelude.{◌≡◌};
 ghost use Rattle.ranges.specs.Given.{RangeGiven};
-ghost use Rattle.interval.specs.RangeAnswer.{range_number};
+ghost use Rattle.refusals.specs.Answer.{answer_number};
 ghost use Rattle.interval.specs.inner.RangeChecks.{RangeChecks};
 
 mod inversion;
 
-use checks::{Checked, check};
+use checks::check;
 use elimination::eliminate;
 use inversion::is_inverted;
-use refusals::{Reason, number};
-
-// What a call answers: that it closed both tables, or why it turned back.
-#[derive(Clone, Copy)]
-pub enum RangeAnswer {
-    Done,
-    Refused(Reason),
-}
+use refusals::Reason;
+use semiring::Algebra;
 
 // All checks of the elimination for the best table, then for the worst, and that no link's worst word betters its best one.
 fn check_range(
@@ -29,22 +22,15 @@ fn check_range(
     worst: &[u16],
     best_result: &[u16],
     worst_result: &[u16],
-) -> Checked
+) -> Result<Algebra, Reason>
     ensures { RangeChecks result algebra size best.now worst.now best_result.now worst_result.now }
 {
-    let best_checked = check(algebra, size, best, best_result);
-    if let Checked::Refused(reason) = best_checked {
-        return Checked::Refused(reason);
-    }
-    let worst_checked = check(algebra, size, worst, worst_result);
-    let a = match worst_checked {
-        Checked::Fit(a) => a,
-        Checked::Refused(reason) => return Checked::Refused(reason),
-    };
+    check(algebra, size, best, best_result)?;
+    let a = check(algebra, size, worst, worst_result)?;
     if is_inverted(a, size, best, worst) {
-        return Checked::Refused(Reason::RangeInverted);
+        return Err(Reason::RangeInverted);
     }
-    Checked::Fit(a)
+    Ok(a)
 }
 
 // The eliminations of both tables, each into its result. A refusal leaves both results as they were.
@@ -55,26 +41,12 @@ pub fn close_range(
     worst: &[u16],
     best_result: &mut [u16],
     worst_result: &mut [u16],
-) -> RangeAnswer
-    ensures { RangeGiven (range_number result) algebra size best.now worst.now
+) -> Result<(), Reason>
+    ensures { RangeGiven (answer_number result) algebra size best.now worst.now
         best_result.old worst_result.old best_result.new worst_result.new }
 {
-    let checked = check_range(algebra, size, best, worst, best_result, worst_result);
-    let a = match checked {
-        Checked::Fit(a) => a,
-        Checked::Refused(reason) => return RangeAnswer::Refused(reason),
-    };
+    let a = check_range(algebra, size, best, worst, best_result, worst_result)?;
     eliminate(a, size, best, best_result);
     eliminate(a, size, worst, worst_result);
-    RangeAnswer::Done
-}
-
-// The number of an answer, 0 where both tables were closed.
-pub fn range_number(answer: RangeAnswer) -> u32
-    ensures { result ≡ range_number answer }
-{
-    match answer {
-        RangeAnswer::Done => 0,
-        RangeAnswer::Refused(reason) => number(reason),
-    }
+    Ok(())
 }

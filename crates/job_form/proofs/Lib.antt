@@ -1,8 +1,5 @@
-pub mod Heads
-pub mod Lines
 pub mod Padded
 pub mod Scans
-pub mod Tallies
 pub mod Words
 pub mod Limits
 pub mod Spelled

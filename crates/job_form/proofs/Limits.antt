@@ -7,11 +7,10 @@ use mathlib.Core.Bool.{Bool, true, false, cond}
 use lib.ListN.{length, get_or, take}
 use lib.Dec.{eqb}
 use Rattle.semiring.specs.declared.Algebra.TheVariants.{Reach, Distance, Steepest}
+use Rattle.std.proofs.Common.{Option, Some, None}
 use Rattle.text.specs.Ascii.{ascii}
 use Rattle.memory.specs.Lists.{same}
 use Rattle.text.specs.Numeral.{digits, numeral_of}
-use Rattle.text.specs.declared.numeral.Numeral.{Numeral}
-use Rattle.text.specs.declared.numeral.Numeral.TheVariants as read
 use Rattle.text.proofs.Digits.{numeral_most}
 use Rattle.job_form.specs.declared.tokens.Token.{Token}
 use Rattle.job_form.specs.declared.tokens.Token.TheVariants.{Number, Over, Dash, Name, Other}
@@ -46,9 +45,9 @@ one_or_other false x y h k = k
 limited_numeral : (p : List ℕ) → Limited (numeral_token p)
 limited_numeral p = by (numeral_of 5 65535 p) refl
   where
-    by : (r : Numeral) → numeral_of 5 65535 p ≡ r → Limited (number_in r)
-    by (read.Number n) e = numeral_most 5 65535 p n e
-    by read.Over e = tt
+    by : (r : Option ℕ) → numeral_of 5 65535 p ≡ r → Limited (number_in r)
+    by (Some n) e = numeral_most 5 65535 p n e
+    by None e = tt
 
 limited_name : (p : List ℕ) → Limited (name p)
 unfolding name

@@ -27,9 +27,6 @@ set_padded zero ws v = refl
 set_padded (suc n) [] v = refl
 set_padded (suc n) (w ∷ ws) v = ap (λ (l : List ℕ). w ∷ l) (set_padded n ws v)
 
-pub dropped : (l : List ℕ) (at word : ℕ) → length l ≤ at → l ≡ set l at word
-dropped l at word h = sym (set_out l at word h)
-
 -- at the place that is held at the end
 set_held : (n : ℕ) (ws : List ℕ) (v : ℕ) → Dec (length ws < n) → set (padded n ws) (min (length ws) n) v ≡ padded n (ws ++ (v ∷ []))
 set_held n ws v (yes h) = let e : min (length ws) n ≡ length ws = omega arith in rw e (set_padded n ws v)
@@ -44,7 +41,7 @@ held_place : (k n m : ℕ) → m ≡ k + 1 → Dec (min k n < n) → cond (ltb (
 held_place k n m e (yes h) = rw (lt-ltb (min k n) n h) (omega arith)
 held_place k n m e (no h) = rw (le-ltb (min k n) n (omega arith)) (omega arith)
 
-pub held_store : {ws l : List ℕ} {at : ℕ} (v : ℕ) → Held ws at l → Held (ws ++ (v ∷ [])) (cond (ltb at (length l)) (at + 1) at) (set l at v)
+held_store : {ws l : List ℕ} {at : ℕ} (v : ℕ) → Held ws at l → Held (ws ++ (v ∷ [])) (cond (ltb at (length l)) (at + 1) at) (set l at v)
 held_store {ws} {l} {at} v h = record {
   content =
       ap (λ (x : List ℕ). set x at v) h.content
@@ -53,3 +50,10 @@ held_store {ws} {l} {at} v h = record {
       ∙ ap (λ (n : ℕ). padded n (ws ++ (v ∷ []))) (sym (length-set l at v));
   place = rw (length-set l at v, h.place) (held_place (length ws) (length l) (length (ws ++ (v ∷ []))) (length-append ws (v ∷ [])) (dec_lt (min (length ws) (length l)) (length l)));
 }
+
+-- a word that has room, and one that has none
+pub held_stored : {ws l : List ℕ} {at : ℕ} (v : ℕ) → at < length l → Held ws at l → Held (ws ++ (v ∷ [])) (at + 1) (set l at v)
+held_stored {ws} {l} {at} v h held = rw (lt-ltb at (length l) h) at (held_store v held)
+
+pub held_dropped : {ws l : List ℕ} {at : ℕ} (v : ℕ) → length l ≤ at → Held ws at l → Held (ws ++ (v ∷ [])) at l
+held_dropped {ws} {l} {at} v h held = rw (le-ltb at (length l) h, set_out l at v h) at (held_store v held)

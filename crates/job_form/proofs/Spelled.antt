@@ -14,10 +14,9 @@ use Rattle.memory.proofs.Same.{same_equal}
 use Rattle.semiring.specs.declared.Algebra.{Algebra}
 use Rattle.semiring.specs.declared.Algebra.TheVariants.{Reach, Distance, Steepest}
 use Rattle.semiring.specs.Algebra.{top_of}
+use Rattle.std.proofs.Common.{Option, Some, None}
 use Rattle.text.specs.Ascii.{ascii}
 use Rattle.text.specs.Numeral.{digits, decimal, numeral_of}
-use Rattle.text.specs.declared.numeral.Numeral.{Numeral}
-use Rattle.text.specs.declared.numeral.Numeral.TheVariants as read
 use Rattle.text.specs.claims.Spelling.{Digits}
 use Rattle.job_form.specs.declared.tokens.Token.{Token}
 use Rattle.job_form.specs.declared.tokens.Token.TheVariants.{Number, Over, Dash, Name, Other}
@@ -44,11 +43,11 @@ chosen p false x y f g = g refl
 numeral_spelled : (p : List ℕ) → 1 ≤ length p → digits p ≡ true → Spelled p (numeral_token p)
 numeral_spelled p some all = by (numeral_of 5 65535 p) (limits 5 65535 p)
   where
-    by : (r : Numeral) → Limits 5 65535 p r → Spelled p (number_in r)
-    by (read.Number n) (few, is, most) =
+    by : (r : Option ℕ) → Limits 5 65535 p r → Spelled p (number_in r)
+    by (Some n) (few, is, most) =
         record { some = some; few = few; digits = subst (λ (x : ℕ). Digits 0 p x) is (digits_said 0 p all); most = most }
-    by read.Over (inl h) = over_digits (digits_said 0 p all) h
-    by read.Over (inr h) = over_value (digits_said 0 p all) h
+    by None (inl h) = over_digits (digits_said 0 p all) h
+    by None (inr h) = over_value (digits_said 0 p all) h
 
 name_spelled : (p : List ℕ) → Spelled p (name p)
 unfolding name
@@ -65,7 +64,7 @@ token_spelled (b ∷ p) =
     chosen (b ∷ p) (same (b ∷ p) (ascii "-")) Dash _ (λ e. same_equal (b ∷ p) (ascii "-") e) (λ m. name_spelled (b ∷ p)))
 
 -- And back.
-numeral_read : (p : List ℕ) (r : Numeral) → 1 ≤ length p → digits p ≡ true → Limits 5 65535 p r → token_of p ≡ number_in r
+numeral_read : (p : List ℕ) (r : Option ℕ) → 1 ≤ length p → digits p ≡ true → Limits 5 65535 p r → token_of p ≡ number_in r
 unfolding token_of
 numeral_read [] r some all h = absurd (omega arith)
 numeral_read (b ∷ p) r some all h = rw all (ap number_in (of_limits 5 65535 (b ∷ p) r h))
@@ -73,7 +72,7 @@ numeral_read (b ∷ p) r some all h = rw all (ap number_in (of_limits 5 65535 (b
 pub numeral_token_lem : {p : List ℕ} {n : ℕ} → NumberOf p n → token_of p ≡ Number n
 numeral_token_lem {p} {n} h =
     let (all, value) = said_digits h.digits in
-    numeral_read p (read.Number n) h.some all (h.few, value, h.most)
+    numeral_read p (Some n) h.some all (h.few, value, h.most)
 
 some_digit : (p : List ℕ) → 65535 < decimal 0 p → 1 ≤ length p
 unfolding decimal
@@ -81,11 +80,11 @@ some_digit [] h = absurd (omega arith)
 some_digit (b ∷ p) h = omega arith
 
 over_token : {p : List ℕ} → OverNumeral p → token_of p ≡ Over
-over_token {p} (over_digits d h) = numeral_read p read.Over (omega arith) (said_digits d).0 (inl h)
+over_token {p} (over_digits d h) = numeral_read p None (omega arith) (said_digits d).0 (inl h)
 over_token {p} (over_value d h) =
     let (all, value) = said_digits d in
     let large : 65535 < decimal 0 p = rw value h in
-    numeral_read p read.Over (some_digit p large) all (inr large)
+    numeral_read p None (some_digit p large) all (inr large)
 
 pub name_token : {p : List ℕ} {a : Algebra} → Named p a → token_of p ≡ Name a
 unfolding token_of name digits

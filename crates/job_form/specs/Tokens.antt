@@ -1,5 +1,5 @@
 -- Document 01, "Job text and bench program": what a part of a line stands for.
-use Rattle.std.specs.Prelude.{ℕ, List, [], ◌∷◌, Bool, true, false, cond}
+use Rattle.std.specs.Prelude.{ℕ, List, [], ◌∷◌, Bool, true, false, cond, Option, None, Some}
 use Rattle.semiring.specs.declared.Algebra.{Algebra}
 use Rattle.semiring.specs.declared.Algebra.TheVariants.{Reach, Distance, Steepest}
 use Rattle.refusals.specs.Tests.{first}
@@ -8,13 +8,11 @@ use Rattle.job_form.specs.declared.tokens.Token.TheVariants.{Number, Over, Dash,
 use Rattle.text.specs.Ascii.{ascii}
 use Rattle.memory.specs.Lists.{same}
 use Rattle.text.specs.Numeral.{digits, numeral_of}
-use Rattle.text.specs.declared.numeral.Numeral.{Numeral}
-use Rattle.text.specs.declared.numeral.Numeral.TheVariants as read
 
 -- "Numbers have 1 to 5 decimal digits, leading zeros allowed"; "15 a numeral over 5 digits or above 65535".
-abbrev pub number_in : Numeral → Token
-number_in (read.Number n) = Number n
-number_in read.Over = Over
+abbrev pub number_in : Option ℕ → Token
+number_in (Some n) = Number n
+number_in None = Over
 
 abbrev pub numeral_token : List ℕ → Token
 numeral_token p = number_in (numeral_of 5 65535 p)

@@ -37,9 +37,10 @@ pub enum Line {
 #[derive(Clone, Copy)]
 pub struct Word {
     pub token: Token,
-    pub next: Part,
+    pub next: Option<Part>,
 }
 
+#[tactic(auto, unfolding(crate::specs::Forms::head_of))]
 fn head_of(part: &[u8]) -> Head
     requires { 0 < length part.now }
     ensures { result ≡ head_of part.now }
@@ -50,6 +51,8 @@ fn head_of(part: &[u8]) -> Head
     opening(part)
 }
 
+// By ifs: a match on the texts would be proved byte by byte, in 23 arms.
+#[tactic(auto, unfolding(crate::specs::Forms::opening))]
 fn opening(part: &[u8]) -> Head
     ensures { result ≡ openingOf part.now }
 {
@@ -74,51 +77,39 @@ fn opening(part: &[u8]) -> Head
 fn list_line(line: &[u8], from: usize) -> Line
     ensures { Says line.now result (list_form (parts_from from line.now)) }
 {
-    let order = next_part(line, from);
-    let a = order.start;
-    let b = order.end;
-    if b <= a {
+    let Some(order) = next_part(line, from) else {
         return Line::Unknown;
-    }
-    let further = next_part(line, b);
-    if further.start < further.end {
+    };
+    if next_part(line, order.end).is_some() {
         return Line::Unknown;
     }
     Line::List {
-        order: token_of(&line[a..b]),
+        order: token_of(&line[order.start..order.end]),
     }
 }
 
 fn job_line(line: &[u8], from: usize) -> Line
     ensures { Says line.now result (job_form (parts_from from line.now)) }
 {
-    let size = next_part(line, from);
-    let a = size.start;
-    let b = size.end;
-    if b <= a {
+    let Some(size) = next_part(line, from) else {
         return Line::Unknown;
-    }
-    let algebra = next_part(line, b);
-    let c = algebra.start;
-    let d = algebra.end;
-    if d <= c {
+    };
+    let Some(algebra) = next_part(line, size.end) else {
         return Line::Unknown;
-    }
-    let more = next_part(line, d);
-    if more.start < more.end {
+    };
+    if next_part(line, algebra.end).is_some() {
         return Line::Unknown;
     }
     Line::Job {
-        size: token_of(&line[a..b]),
-        algebra: token_of(&line[c..d]),
+        size: token_of(&line[size.start..size.end]),
+        algebra: token_of(&line[algebra.start..algebra.end]),
     }
 }
 
 fn row_line(line: &[u8], from: usize) -> Line
     ensures { Says line.now result (row_form (parts_from from line.now)) }
 {
-    let first = next_part(line, from);
-    if first.end <= first.start {
+    if next_part(line, from).is_none() {
         return Line::Unknown;
     }
     Line::Row { from }
@@ -128,24 +119,20 @@ fn row_line(line: &[u8], from: usize) -> Line
 fn lone_line(whole: Line, line: &[u8], from: usize) -> Line
     ensures { Says line.now result (alone (form_in line.now whole) (parts_from from line.now)) }
 {
-    let more = next_part(line, from);
-    if more.end <= more.start {
+    if next_part(line, from).is_none() {
         return whole;
     }
     Line::Unknown
 }
 
+#[tactic(auto, unfolding(crate::specs::Forms::form_of, text::specs::Pieces::parts))]
 pub fn read_line(line: &[u8]) -> Line
     ensures { Says line.now result (form_of (parts line.now)) }
 {
-    let first = next_part(line, 0);
-    let start = first.start;
-    let end = first.end;
-    if end <= start {
+    let Some(Part { start, end }) = next_part(line, 0) else {
         return Line::Skipped;
-    }
-    let head = head_of(&line[start..end]);
-    match head {
+    };
+    match head_of(&line[start..end]) {
         Head::Comment => Line::Skipped,
         Head::List => list_line(line, end),
         Head::Job => job_line(line, end),
@@ -169,19 +156,15 @@ fn closing_word(part: &[u8]) -> Token
 }
 
 // The word of a row at a part that is not empty.
-pub fn word_at(line: &[u8], start: usize, end: usize) -> Word
-    requires { (start < end) × (end ≤ length line.now) }
-    ensures { Worded start end line.now result.token result.next.start result.next.end }
+pub fn word_at(line: &[u8], part: Part) -> Word
+    requires { (part.start < part.end) × (part.end ≤ length line.now) }
+    ensures { Worded part.start part.end line.now result.token result.next }
 {
-    let next = next_part(line, end);
-    if next.start < next.end {
-        return Word {
-            token: token_of(&line[start..end]),
-            next,
-        };
-    }
-    Word {
-        token: closing_word(&line[start..end]),
-        next,
-    }
+    let word = &line[part.start..part.end];
+    let next = next_part(line, part.end);
+    let token = match next {
+        Some(_) => token_of(word),
+        None => closing_word(word),
+    };
+    Word { token, next }
 }

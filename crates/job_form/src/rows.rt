@@ -1,17 +1,16 @@
 // The words of a row.
-ghost use Rattle.std.specs.Prelude.{◌≡◌, ◌||◌, ◌<◌, ◌^◌, ltb};
-ghost use Rattle.semiring.specs.Algebra.{top_of};
-ghost use Rattle.job_form.specs.Words.{word_of, no_dash, over_in, no_word};
+ghost use Rattle.std.specs.Prelude.{◌≡◌, ◌<◌, ◌^◌};
+ghost use Rattle.job_form.specs.Words.{word_of, over_in, no_word};
 ghost use Rattle.job_form.specs.inner.Tallies.{no_tally, counted};
 ghost use Rattle.job_form.specs.inner.RowRead.{RowRead};
 
-use crate::buffers::{place_after, store};
 use crate::forms::word_at;
 use crate::tokens::Token;
 use semiring::{Algebra, none, top};
 use text::next_part;
 
-// What was found among the words of a row.
+// What was found among the words of a row. Flags and not the first reason: which test applies first also rests on the count, which is
+// known at the row's end.
 #[derive(Clone, Copy)]
 pub struct Tally {
     // A part that is no word.
@@ -30,62 +29,30 @@ pub struct Row {
     pub at: usize,
 }
 
-fn no_dash(a: Algebra) -> bool
-    ensures { result ≡ no_dash a }
-{
-    match a {
-        Algebra::Reach => true,
-        Algebra::Distance => false,
-        Algebra::Steepest => false,
-    }
-}
-
 fn word_of(a: Algebra, token: Token) -> u16
     ensures { result ≡ word_of a token }
 {
     match token {
         Token::Number(n) => n,
-        Token::Over => 0,
         Token::Dash => none(a),
-        Token::Name(_) => 0,
-        Token::Other => 0,
+        _ => 0,
     }
 }
 
 fn no_word(token: Token) -> bool
     ensures { result ≡ no_word token }
 {
-    match token {
-        Token::Number(_) => false,
-        Token::Over => false,
-        Token::Dash => false,
-        Token::Name(_) => true,
-        Token::Other => true,
-    }
+    matches!(token, Token::Name(_) | Token::Other)
 }
 
 fn over_in(a: Algebra, token: Token) -> bool
     ensures { result ≡ over_in a token }
 {
     match token {
-        Token::Number(_) => false,
         Token::Over => true,
-        Token::Dash => no_dash(a),
-        Token::Name(_) => false,
-        Token::Other => false,
+        Token::Dash => matches!(a, Algebra::Reach),
+        _ => false,
     }
-}
-
-fn either(x: bool, y: bool) -> bool
-    ensures { result ≡ (x || y) }
-{
-    if x { true } else { y }
-}
-
-fn is_above(a: Algebra, word: u16) -> bool
-    ensures { result ≡ ltb (top_of a) word }
-{
-    top(a) < word
 }
 
 impl Tally {
@@ -106,9 +73,9 @@ impl Tally {
         ensures { result ≡ counted a self token }
     {
         Tally {
-            other: either(self.other, no_word(token)),
-            over: either(self.over, over_in(a, token)),
-            above: either(self.above, is_above(a, word_of(a, token))),
+            other: self.other || no_word(token),
+            over: self.over || over_in(a, token),
+            above: self.above || top(a) < word_of(a, token),
             count: self.count + 1,
         }
     }
@@ -118,20 +85,18 @@ impl Tally {
 pub fn read_row(line: &[u8], from: usize, a: Algebra, at: usize, weights: &mut [u16]) -> Row
     ensures { RowRead a line.now from at weights.old result.tally result.at weights.new }
 {
-    let first = next_part(line, from);
-    let mut start = first.start;
-    let mut end = first.end;
+    let mut next = next_part(line, from);
     let mut tally = Tally::new();
     let mut place = at;
-    while start < end {
-        let word = word_at(line, start, end);
-        let token = word.token;
-        let next = word.next;
-        store(weights, place, word_of(a, token));
-        place = place_after(place, weights.len());
-        tally = tally.and(a, token);
-        start = next.start;
-        end = next.end;
+    // A while: each part says where the next begins, and no slice holds them.
+    while let Some(part) = next {
+        let word = word_at(line, part);
+        if place < weights.len() {
+            weights[place] = word_of(a, word.token);
+            place += 1;
+        }
+        tally = tally.and(a, word.token);
+        next = word.next;
     }
     Row { tally, at: place }
 }

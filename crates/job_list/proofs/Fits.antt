@@ -9,6 +9,7 @@ use mathlib.Core.Bool.{false}
 use lib.Dec.{ltb}
 use lib.ListN.{length, get_or, get_or-eq_default}
 use borrow.Author.Tests.{le-ltb, ltb-false}
+use Rattle.std.specs.Prelude.{Some}
 use Rattle.memory.proofs.Any.{any_none, none_any, both_false}
 use Rattle.memory.proofs.Geometry.{square_fits}
 use Rattle.refusals.specs.Tests.{outside}
@@ -16,7 +17,6 @@ use Rattle.refusals.proofs.First.{inside, within}
 use Rattle.semiring.specs.Algebra.{Word, top_of}
 use Rattle.semiring.specs.Words.{any_above}
 use Rattle.semiring.specs.Named.{named_of}
-use Rattle.semiring.specs.declared.Named.TheVariants.{Known}
 use Rattle.semiring.proofs.Above.{none_above, words_below}
 use Rattle.job_list.specs.Jobs.{Jobs, jobs_of, known, algebra_of, algebra, count, size, offset, part_of, job_weights}
 use Rattle.job_list.specs.Fits.{any_unknown, any_outside, above_before, job_above, ListFits, ListAccepted, Small}
@@ -45,13 +45,13 @@ tested_fits algebras order sizes weights e f one_each g =
 pub tested_numbers : (algebras : List ℕ) → any_unknown algebras ≡ false → (q : ℕ) → q < length algebras → get_or algebras q 0 ≤ 2
 tested_numbers algebras e q h = ltb-false 2 (get_or algebras q 0) (any_none (ltb 2) algebras e q h)
 
-number_named : (n : ℕ) → n ≤ 2 → named_of n ≡ Known (known (named_of n))
+number_named : (n : ℕ) → n ≤ 2 → named_of n ≡ Some (known (named_of n))
 number_named zero h = refl
 number_named (suc zero) h = refl
 number_named (suc (suc zero)) h = refl
 number_named (suc (suc (suc n))) h = absurd (omega arith)
 
-pub algebra_named_lem : {J : Jobs} → ListAccepted J → (q : ℕ) → q < count J → named_of (get_or J.algebras q 0) ≡ Known (algebra J q)
+pub algebra_named_lem : {J : Jobs} → ListAccepted J → (q : ℕ) → q < count J → named_of (get_or J.algebras q 0) ≡ Some (algebra J q)
 unfolding algebra_of
 algebra_named_lem {J} list q h = number_named (get_or J.algebras q 0) (list.numbers q (omega (arith, list.fits.algebras_fit)))
 

@@ -4,3 +4,4 @@ pub mod Sums
 pub mod Above
 pub mod Conditions
 pub mod Plain
+pub mod Chains

@@ -7,21 +7,16 @@ ghost use Rattle.job_list.specs.Jobs.{offset};
 ghost use Rattle.job_list.specs.Fits.{any_outside, Small};
 
 mod algebras;
+mod jobs;
 
-pub use algebras::{algebra_of, any_above, any_unknown};
+pub use algebras::{algebra_of, any_unknown};
+pub use jobs::Jobs;
 
 // Whether a job's size is outside 1 to the order.
 pub fn any_outside(order: usize, sizes: &[u16]) -> bool
     ensures { result ≡ any_outside order sizes.now }
 {
-    let mut found = false;
-    let mut q = 0;
-    while q < sizes.len() {
-        let n = sizes[q] as usize;
-        found = found | ((n < 1) | (order < n));
-        q += 1;
-    }
-    found
+    sizes.iter().any(|n| *n < 1 || order < usize::from(*n))
 }
 
 // The words of the first q jobs: the sum of their sizes' squares.
@@ -30,12 +25,8 @@ pub fn words_before(sizes: &[u16], q: usize) -> usize
     ensures exact { result ≡ offset sizes.now q }
     ensures most { result ≤ 16384 }
 {
-    let mut words = 0;
-    let mut p = 0;
-    while p < q {
-        let n = sizes[p] as usize;
-        words += n * n;
-        p += 1;
-    }
-    words
+    sizes[..q]
+        .iter()
+        .map(|n| usize::from(*n) * usize::from(*n))
+        .sum()
 }

@@ -1,5 +1,5 @@
 -- Document 01, row Text of "Where each call turns back", with K8's algebras: what reading a whole text gives.
-use Rattle.std.specs.Prelude.{ℕ, zero, suc, ◌≡◌, List, [], ◌∷◌, Bool, not, ◌||◌, length, eqb, ltb}
+use Rattle.std.specs.Prelude.{ℕ, zero, suc, ◌≡◌, List, [], ◌∷◌, Bool, not, ◌||◌, length, eqb, ltb, Result, Ok, Err}
 use Rattle.refusals.specs.Reason.{reason_number}
 use Rattle.refusals.specs.Tests.{first}
 use Rattle.text.specs.Pieces.{lines, parts}
@@ -8,8 +8,7 @@ use Rattle.job_form.specs.Buffer.{padded}
 use Rattle.job_reading.specs.Steps.{Progress, by_due, Step, go, stop, start, step}
 use Rattle.job_reading.specs.declared.state.Due.{Due}
 use Rattle.job_reading.specs.declared.answer.Refusal.{Refusal as Why}
-use Rattle.job_reading.specs.declared.answer.Read.{Read}
-use Rattle.job_reading.specs.declared.answer.Read.TheVariants.{List as Listed, Refused}
+use Rattle.job_reading.specs.declared.answer.List.{List as Listed}
 
 -- "number, line"
 pub record Refusal : Type 0 where
@@ -89,12 +88,12 @@ answer_of (accepted order algebras sizes weights) = given order (length sizes)
 abbrev pub told : Why → Refusal
 told why = refusal (reason_number why.reason) why.line
 
-abbrev pub answered : Read → Answer
-answered (Listed order jobs) = given order jobs
-answered (Refused why) = turned (told why)
+abbrev pub answered : Result Listed Why → Answer
+answered (Ok list) = given list.order list.jobs
+answered (Err why) = turned (told why)
 
 -- What a call of `read` answers and leaves, from the lengths of the three buffers and the text.
-pub record ReadInto (l m n : ℕ) (text : List ℕ) (r : Read) (algebras sizes weights : List ℕ) : Type 0 where
+pub record ReadInto (l m n : ℕ) (text : List ℕ) (r : Result Listed Why) (algebras sizes weights : List ℕ) : Type 0 where
   pub outcome : answered r ≡ answer_of (reading_of l m n text)
   pub algebras_left : algebras ≡ algebras_after l m n text
   pub sizes_left : sizes ≡ sizes_after l m n text

@@ -6,5 +6,5 @@
 mod answer;
 mod state;
 
-pub use answer::{Read, Refusal, refused};
-pub use state::{Due, Next, State, for_due};
+pub use answer::{List, Refusal};
+pub use state::{Due, State};

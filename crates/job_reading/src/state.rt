@@ -1,9 +1,10 @@
 // How far a text has been read.
 ghost use Rattle.std.specs.Prelude.{◌≡◌};
-ghost use Rattle.refusals.specs.Tested.{tested_number};
+ghost use Rattle.std.specs.Result.{IsErrAnd};
+ghost use Rattle.refusals.specs.Reason.{reason_number};
 ghost use Rattle.job_reading.specs.Steps.{for_due};
 
-use refusals::{Reason, Tested};
+use refusals::Reason;
 use semiring::Algebra;
 
 // The form that is due.
@@ -34,22 +35,14 @@ pub struct State {
     pub at: usize,
 }
 
-// What a line leads to: the state after it, or why it is refused.
-#[derive(Clone, Copy)]
-pub enum Next {
-    On(State),
-    Stop(Reason),
-}
-
-// The tests for what is due; after the end no line is.
-pub fn for_due(due: Due, list: Tested, job: Tested, row: Tested, close: Tested) -> Tested
-    ensures { tested_number result ≡ for_due due (tested_number list) (tested_number job) (tested_number row) (tested_number close) }
-{
-    match due {
-        Due::List => list,
-        Due::Job => job,
-        Due::Row => row,
-        Due::Close => close,
-        Due::Nothing => Tested::Unfit(Reason::TextEnd),
+impl State {
+    // The answer to a line whose form is not due: after the end no line is.
+    pub fn undue(self) -> Result<State, Reason>
+        ensures { IsErrAnd result (λ reason. reason_number reason ≡ for_due self.due 14 14 14 14) }
+    {
+        match self.due {
+            Due::Nothing => Err(Reason::TextEnd),
+            _ => Err(Reason::FormNotDue),
+        }
     }
 }

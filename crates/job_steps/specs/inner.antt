@@ -1,5 +1,4 @@
 -- What the contracts of inner functions say; document 01's own words are in the folder above.
-pub mod TestedBy
 pub mod Tallies
 pub mod States
 pub mod Stepped

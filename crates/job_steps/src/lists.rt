@@ -1,92 +1,65 @@
 // The line that opens a list, and the brackets that close a job and the list.
-ghost use Rattle.std.specs.Prelude.{◌≡◌};
+ghost use Rattle.std.specs.Prelude.{◌≡◌, IfOk};
+ghost use Rattle.refusals.specs.Answer.{answer_number};
+ghost use Rattle.refusals.specs.Tests.{first};
+ghost use Rattle.job_form.specs.Tokens.{value_of};
 ghost use Rattle.job_form.specs.Forms.{list, close};
-ghost use Rattle.job_reading.specs.Steps.{list_tests, list_end_tests, due_after_close};
-ghost use Rattle.job_steps.specs.inner.TestedBy.{TestedBy};
+ghost use Rattle.job_reading.specs.Steps.{list_tests};
 ghost use Rattle.job_steps.specs.inner.Stepped.{Stepped};
 
 use job_form::Token;
-use job_reading::{Due, Next, State, for_due};
-use refusals::{Reason, Tested};
+use job_reading::{Due, State};
+use refusals::Reason;
 
-fn list_tests(order: Token) -> Tested
-    ensures { TestedBy (list_tests order) result }
+// The order that a list's line gives.
+fn list_tests(order: Token) -> Result<u16, Reason>
+    ensures tested { answer_number result ≡ first 0 (list_tests order) }
+    ensures value { IfOk result (λ n. n ≡ value_of order) }
 {
-    if !order.is_numeral() {
-        return Tested::Unfit(Reason::FormNotDue);
+    match order {
+        Token::Number(n) => {
+            if n < 1 || 32 < n {
+                return Err(Reason::OrderOutside);
+            }
+            Ok(n)
+        }
+        Token::Over => Err(Reason::NumeralOver),
+        Token::Dash | Token::Name(_) | Token::Other => Err(Reason::FormNotDue),
     }
-    if order.is_over() {
-        return Tested::Unfit(Reason::NumeralOver);
-    }
-    let n = order.value();
-    if n < 1 {
-        return Tested::Unfit(Reason::OrderOutside);
-    }
-    if 32 < n {
-        return Tested::Unfit(Reason::OrderOutside);
-    }
-    Tested::Fit
 }
 
-pub fn list_step(s: State, order: Token) -> Next
+pub fn list_step(s: State, order: Token) -> Result<State, Reason>
     ensures { Stepped s (list order) result }
 {
-    let due = s.due;
-    let other = Tested::Unfit(Reason::FormNotDue);
-    let tested = for_due(due, list_tests(order), other, other, other);
-    let algebra = s.algebra;
-    match tested {
-        Tested::Fit => Next::On(State {
-            due: Due::Job,
-            order: order.value(),
-            jobs: s.jobs,
-            algebra,
-            size: 0,
-            left: 0,
-            at: s.at,
-        }),
-        Tested::Unfit(reason) => Next::Stop(reason),
+    match s.due {
+        Due::List => {
+            let order = list_tests(order)?;
+            Ok(State {
+                due: Due::Job,
+                order,
+                size: 0,
+                left: 0,
+                ..s
+            })
+        }
+        _ => s.undue(),
     }
 }
 
-fn list_end_tests(jobs: u16) -> Tested
-    ensures { TestedBy (list_end_tests jobs) result }
-{
-    if jobs == 0 {
-        return Tested::Unfit(Reason::JobsOutside);
-    }
-    Tested::Fit
-}
-
-fn due_after_close(due: Due) -> Due
-    ensures { result ≡ due_after_close due }
-{
-    match due {
-        Due::List => Due::Nothing,
-        Due::Job => Due::Nothing,
-        Due::Row => Due::Nothing,
-        Due::Close => Due::Job,
-        Due::Nothing => Due::Nothing,
-    }
-}
-
-pub fn close_step(s: State) -> Next
+pub fn close_step(s: State) -> Result<State, Reason>
     ensures { Stepped s close result }
 {
-    let due = s.due;
-    let other = Tested::Unfit(Reason::FormNotDue);
-    let tested = for_due(due, other, list_end_tests(s.jobs), other, Tested::Fit);
-    let algebra = s.algebra;
-    match tested {
-        Tested::Fit => Next::On(State {
-            due: due_after_close(due),
-            order: s.order,
-            jobs: s.jobs,
-            algebra,
-            size: s.size,
-            left: s.left,
-            at: s.at,
-        }),
-        Tested::Unfit(reason) => Next::Stop(reason),
+    match s.due {
+        Due::Job => {
+            if s.jobs == 0 {
+                return Err(Reason::JobsOutside);
+            }
+            Ok(State {
+                due: Due::Nothing,
+                ..s
+            })
+        }
+        Due::Close => Ok(State { due: Due::Job, ..s }),
+        _ => s.undue(),
     }
 }

@@ -5,8 +5,9 @@ use native.Mathlib.Nat.{zero-min}
 use native.Mathlib.Numerals.{add-one}
 use native.Mathlib.Omega.{arith}
 use mathlib.Core.Path.{◌≡◌, refl, sym, ap, subst, ◌∙◌}
-use mathlib.Core.List.{List, [], ◌∷◌, map}
+use mathlib.Core.List.{List, map}
 use lib.ListN.{length, drop, drop_of_length-le}
+use Rattle.std.proofs.Common.{Result, Ok, Err}
 use Rattle.refusals.specs.Reason.{reason_number}
 use Rattle.refusals.specs.declared.Reason.{Reason}
 use Rattle.text.specs.Pieces.{bytes_of, cut, lines, parts}
@@ -15,9 +16,8 @@ use Rattle.text.specs.inner.Scan.{between, Until}
 use Rattle.job_reading.specs.declared.state.Due.{Due}
 use Rattle.job_reading.specs.declared.state.Due.TheVariants as due
 use Rattle.job_reading.specs.declared.state.State.{State}
-use Rattle.job_reading.specs.declared.state.Next.{Next}
-use Rattle.job_reading.specs.declared.state.Next.TheVariants.{On, Stop}
-use Rattle.job_reading.specs.declared.answer.Read.{Read}
+use Rattle.job_reading.specs.declared.answer.List.{List as Listed}
+use Rattle.job_reading.specs.declared.answer.Refusal.{Refusal as Why}
 use Rattle.job_reading.specs.Steps.{Progress, start, Step, go, stop, step}
 use Rattle.job_reading.specs.Reading.{Reading, refused, refusal, ended, follow, turned, answer_of, answered}
 use Rattle.job_steps.specs.inner.States.{state_of, AllCleared, Kept, Went, ended_by, Ended, Filled, Followed}
@@ -60,14 +60,22 @@ reached_start text algebras sizes weights s e empty = record {
   weights_length = refl;
 }
 
-went_on : (t : Step) (s : State) (algebras sizes weights : List ℕ) → Went t (On s) algebras sizes weights
+went_on : (t : Step) (s : State) (algebras sizes weights : List ℕ) → Went t (Ok s) algebras sizes weights
     → (q : Progress) × (t ≡ go q) × Kept q s algebras sizes weights
 went_on (go p) s algebras sizes weights (s', (e, k)) = let q : s ≡ s' = cc in (p, refl, rw q k)
 went_on (stop k) s algebras sizes weights e = let z : ◌≡◌ {A = ℕ} 0 1 = cc in absurd (omega arith)
 
-went_stop : (t : Step) (reason : Reason) (algebras sizes weights : List ℕ) → Went t (Stop reason) algebras sizes weights → t ≡ stop (reason_number reason)
+went_stop : (t : Step) (reason : Reason) (algebras sizes weights : List ℕ) → Went t (Err reason) algebras sizes weights → t ≡ stop (reason_number reason)
 went_stop (go p) reason algebras sizes weights (s', (e, h)) = let z : ◌≡◌ {A = ℕ} 0 1 = cc in absurd (omega arith)
 went_stop (stop j) reason algebras sizes weights e = let q : j ≡ reason_number reason = cc in ap stop q
+
+-- a text that ends before its list does
+pub early : (d : Due) (s : State) (line : ℕ) → (d ≡ due.Nothing → ⊥) → turned (refusal 17 line) ≡ ended_by d s line
+early due.List s line some = refl
+early due.Job s line some = refl
+early due.Row s line some = refl
+early due.Close s line some = refl
+early due.Nothing s line some = absurd (some refl)
 
 ended_answer : (d : Due) (n line : ℕ) (p : Progress) → ended_by d (state_of n p) line ≡ answer_of (ended d line p)
 ended_answer due.List n line p = refl
@@ -92,12 +100,12 @@ module _ {text algebras₀ sizes₀ weights₀ algebras sizes weights : List ℕ
   unfolding follow
   follow_line {end} h u = rw (add-one line) (sym (ap (λ (ls : List (List ℕ)). follow line ls (go c.done)) (ap (map bytes_of) (u.piece h))) ∙ c.follows)
 
-  module _ {end : ℕ} {r : Next} {algebras' sizes' weights' : List ℕ} (h : from < length text) (u : Until (code "\n") from text end)
+  module _ {end : ℕ} {r : Result State Reason} {algebras' sizes' weights' : List ℕ} (h : from < length text) (u : Until (code "\n") from text end)
       (LineRead : Advanced (between from end text) s algebras sizes weights r algebras' sizes' weights') where
     went : Went (step c.done (form_of (parts (between from end text)))) r algebras' sizes' weights'
     went = LineRead.goes c.done c.kept
 
-    pub reached_on : {s' : State} → r ≡ On s' → length algebras' ≡ length algebras → length sizes' ≡ length sizes → length weights' ≡ length weights
+    pub reached_on : {s' : State} → r ≡ Ok s' → length algebras' ≡ length algebras → length sizes' ≡ length sizes → length weights' ≡ length weights
         → Reached text algebras₀ sizes₀ weights₀ algebras' sizes' weights' s' (end + 1) (line + 1)
     reached_on {s'} is d e f = on (went_on (step c.done (form_of (parts (between from end text)))) s' algebras' sizes' weights' (rw is at went))
       where
@@ -113,14 +121,14 @@ module _ {text algebras₀ sizes₀ weights₀ algebras sizes weights : List ℕ
           weights_length = f ∙ c.weights_length;
         }
 
-    refusal_is : {reason : Reason} → r ≡ Stop reason → refused (refusal (reason_number reason) (line + 1)) ≡ whole text
+    refusal_is : {reason : Reason} → r ≡ Err reason → refused (refusal (reason_number reason) (line + 1)) ≡ whole text
     refusal_is {reason} is =
         sym (follow_stop (line + 1) (reason_number reason) (lines_from (end + 1) text))
         ∙ ap (follow (line + 1) (lines_from (end + 1) text))
         (sym (went_stop (step c.done (form_of (parts (between from end text)))) reason algebras' sizes' weights' (rw is at went)))
         ∙ follow_line h u
 
-    pub reached_stop : {reason : Reason} {answer : Read} → r ≡ Stop reason → answered answer ≡ turned (refusal (reason_number reason) (line + 1))
+    pub reached_stop : {reason : Reason} {answer : Result Listed Why} → r ≡ Err reason → answered answer ≡ turned (refusal (reason_number reason) (line + 1))
         → Followed (whole text) answer algebras' sizes' weights'
     reached_stop {reason} is answers =
         let e : refused (refusal (reason_number reason) (line + 1)) ≡ whole text = refusal_is is in
@@ -130,7 +138,7 @@ module _ {text algebras₀ sizes₀ weights₀ algebras sizes weights : List ℕ
   unfolding follow cut
   the_end h = sym (ap (λ (l : List ℕ). follow line (map bytes_of (cut (code "\n") from l)) (go c.done)) (drop_of_length-le text h)) ∙ c.follows
 
-  pub reached_end : {r : Read} → length text ≤ from → Ended s line r → Followed (whole text) r algebras sizes weights
+  pub reached_end : {r : Result Listed Why} → length text ≤ from → Ended s line r → Followed (whole text) r algebras sizes weights
   reached_end h q = record {
     outcome =
         q.outcome
@@ -141,13 +149,3 @@ module _ {text algebras₀ sizes₀ weights₀ algebras sizes weights : List ℕ
         subst (λ (x : Reading). Filled x algebras sizes weights) (the_end h)
         (ended_filled c.done.due line c.done s algebras sizes weights c.kept);
   }
-
-  -- the buffers keep their lengths
-  pub algebras_kept : (algebras' : List ℕ) → length algebras' ≡ length algebras → length algebras' ≡ length algebras₀
-  algebras_kept algebras' e = e ∙ c.algebras_length
-
-  pub sizes_kept : (sizes' : List ℕ) → length sizes' ≡ length sizes → length sizes' ≡ length sizes₀
-  sizes_kept sizes' e = e ∙ c.sizes_length
-
-  pub weights_kept : (weights' : List ℕ) → length weights' ≡ length weights → length weights' ≡ length weights₀
-  weights_kept weights' e = e ∙ c.weights_length

@@ -5,107 +5,80 @@ ghost use Rattle.levels.specs.inner.Search.{Seen, Visited, Met, Linked, Searched
 
 use semiring::{Algebra, product};
 
-// What a search goes by: the algebra, the number of points and the point that the ways end at.
+// What a search goes by: the algebra, the number of points, their links, the closed table and the point that the ways end at.
 #[derive(Clone, Copy)]
-pub struct Target {
+pub struct Search<'a> {
     pub algebra: Algebra,
     pub size: usize,
-    pub point: usize,
+    pub links: &'a [u16],
+    pub closed: &'a [u16],
+    pub target: usize,
 }
 
-// Point v, seen from point u of level r.
-fn visit(
-    target: Target,
-    links: &[u16],
-    closed: &[u16],
-    r: usize,
-    u: usize,
-    v: usize,
-    level: &mut [usize],
-    next: &mut [usize],
-)
-    requires { Seen target.algebra target.size target.point links.now closed.now r u v level.old next.old }
-    ensures { Visited target.algebra target.size target.point links.now closed.now r u v
-        level.old next.old level.new next.new }
-{
-    let a = target.algebra;
-    let n = target.size;
-    let to = target.point;
-    if level[v] != 0 {
-        return;
-    }
-    if closed[v * n + to] != product(a, links[v * n + u], closed[u * n + to]) {
-        return;
-    }
-    level[v] = r + 1;
-    next[v] = u;
+// What the search says of a point: its level, 0 where it has none, and the point that follows it. No Option: the levels that
+// `Levels` (ways) speaks of are numbers, and a point has none where its number is 0.
+#[derive(Clone, Copy)]
+pub struct Mark {
+    pub level: usize,
+    pub next: usize,
 }
 
-// Every point, seen from point u, if its level is r.
-fn join(
-    target: Target,
-    links: &[u16],
-    closed: &[u16],
-    r: usize,
-    u: usize,
-    level: &mut [usize],
-    next: &mut [usize],
-)
-    requires { Met target.algebra target.size target.point links.now closed.now r u level.old next.old }
-    ensures { Linked target.algebra target.size target.point links.now closed.now r u
-        level.old next.old level.new next.new }
-{
-    if level[u] != r {
-        return;
-    }
-    let mut v = 0;
-    while v < target.size {
-        visit(target, links, closed, r, u, v, level, next);
-        v += 1;
-    }
-}
-
-// Every point of level r joined.
-fn next_level(
-    target: Target,
-    links: &[u16],
-    closed: &[u16],
-    r: usize,
-    level: &mut [usize],
-    next: &mut [usize],
-)
-    requires { Searched target.algebra target.size target.point links.now closed.now r level.old next.old
-        × (r ≤ target.size) }
-    ensures { LevelDone target.algebra target.size target.point links.now closed.now r
-        level.old next.old level.new next.new }
-{
-    let mut u = 0;
-    while u < target.size {
-        join(target, links, closed, r, u, level, next);
-        u += 1;
-    }
-}
-
-// Level after level, until the point `from` has one.
-pub fn search(
-    target: Target,
-    links: &[u16],
-    closed: &[u16],
-    from: usize,
-    level: &mut [usize],
-    next: &mut [usize],
-)
-    requires { Searched target.algebra target.size target.point links.now closed.now 1 level.old next.old
-        × (from < target.size) }
-    ensures { Ended target.algebra target.size target.point links.now closed.now from
-        level.new next.new }
-{
-    let mut r = 1;
-    while r <= target.size {
-        if level[from] != 0 {
+impl Search<'_> {
+    // Point v, seen from point u of level r.
+    fn visit(&self, r: usize, u: usize, v: usize, marks: &mut [Mark])
+        requires { Seen self.now r u v marks.old }
+        ensures { Visited self.now r u v marks.old marks.new }
+    {
+        let n = self.size;
+        let to = self.target;
+        if marks[v].level != 0 {
             return;
         }
-        next_level(target, links, closed, r, level, next);
-        r += 1;
+        let word = product(self.algebra, self.links[v * n + u], self.closed[u * n + to]);
+        if self.closed[v * n + to] != word {
+            return;
+        }
+        marks[v] = Mark {
+            level: r + 1,
+            next: u,
+        };
+    }
+
+    // Every point, seen from point u, if its level is r.
+    fn join(&self, r: usize, u: usize, marks: &mut [Mark])
+        requires { Met self.now r u marks.old }
+        ensures { Linked self.now r u marks.old marks.new }
+    {
+        if marks[u].level != r {
+            return;
+        }
+        for v in 0..self.size {
+            self.visit(r, u, v, marks);
+        }
+    }
+
+    // Every point of level r joined.
+    fn next_level(&self, r: usize, marks: &mut [Mark])
+        requires searched { Searched self.now r marks.old }
+        requires most { r ≤ self.now.size }
+        ensures { LevelDone self.now r marks.old marks.new }
+    {
+        for u in 0..self.size {
+            self.join(r, u, marks);
+        }
+    }
+
+    // Level after level, until the point `from` has one.
+    pub fn reach(&self, from: usize, marks: &mut [Mark])
+        requires searched { Searched self.now 1 marks.old }
+        requires inside { from < self.now.size }
+        ensures { Ended self.now from marks.new }
+    {
+        for r in 1..=self.size {
+            if marks[from].level != 0 {
+                return;
+            }
+            self.next_level(r, marks);
+        }
     }
 }

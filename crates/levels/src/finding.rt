@@ -1,7 +1,7 @@
 // A way between two points whose word is their entry in the closed table.
 ghost use Rattle.ways.specs.inner.Sought.{Sought, Found};
 
-use crate::backwards::{Target, search};
+use crate::backwards::{Mark, Search};
 use crate::successors::follow;
 use semiring::Algebra;
 
@@ -18,14 +18,15 @@ pub fn find(
     requires { Sought algebra size links.now closed.now from to list.old }
     ensures { Found algebra size links.now closed.now from to list.old list.new result }
 {
-    let mut level = [0usize; 128];
-    let mut next = [0usize; 128];
-    level[to] = 1;
-    let target = Target {
-        algebra: algebra,
-        size: size,
-        point: to,
+    let mut marks = [Mark { level: 0, next: 0 }; 128];
+    marks[to].level = 1;
+    let search = Search {
+        algebra,
+        size,
+        links,
+        closed,
+        target: to,
     };
-    search(target, links, closed, from, &mut level, &mut next);
-    follow(from, to, &next, list)
+    search.reach(from, &mut marks);
+    follow(from, to, &marks, list)
 }

@@ -1,5 +1,5 @@
 -- Two lists, compared from the front; and a walk that compares them to their end.
-use Prim.Native.Nat.{ℕ, suc, ◌+◌, ◌<◌, ◌≤◌, zero-le}
+use Prim.Native.Nat.{ℕ, ◌+◌, ◌<◌, ◌≤◌, zero-le}
 use native.Mathlib.Numerals.{add-one}
 use native.Mathlib.Omega.{arith}
 use mathlib.Core.Path.{◌≡◌, refl, sym, ap, ◌∙◌}
@@ -8,28 +8,9 @@ use mathlib.Core.Bool.{Bool, true, false, true≢false, ◌&&◌}
 use lib.ListN.{length, get_or, drop, drop_of_length-le}
 use lib.Seq.{drop-cons}
 use lib.Dec.{eqb}
-use borrow.Author.Tests.{eq-eqb, ne_eqb, eqb-true}
+use borrow.Author.Tests.{eq-eqb, eqb-true}
 use Rattle.memory.specs.Lists.{same}
 use Rattle.memory.proofs.Any.{both_true}
-
-same_length : (p q : List ℕ) → (length p ≡ length q → ⊥) → same p q ≡ false
-same_length [] [] h = absurd (h refl)
-same_length [] (c ∷ q) h = refl
-same_length (b ∷ p) [] h = refl
-same_length (b ∷ p) (c ∷ q) h = rw (same_length p q (λ e. h (ap suc e))) (and-false (eqb b c))
-  where
-    and-false : (x : Bool) → (x && false) ≡ false
-    and-false true = refl
-    and-false false = refl
-
-pub longer : (p q : List ℕ) → (length p ≡ length q → ⊥) → false ≡ same p q
-longer p q h = sym (same_length p q h)
-
-pub same_step : (p q : List ℕ) (i : ℕ) → i < length p → i < length q → get_or p i 0 ≡ get_or q i 0 → same (drop i p) (drop i q) ≡ same (drop (i + 1) p) (drop (i + 1) q)
-same_step p q i h k e = rw (drop-cons p i 0 h, drop-cons q i 0 k, add-one i, eq-eqb (get_or p i 0) (get_or q i 0) e)
-
-pub same_differ : (p q : List ℕ) (i : ℕ) → i < length p → i < length q → (get_or p i 0 ≡ get_or q i 0 → ⊥) → same (drop i p) (drop i q) ≡ false
-same_differ p q i h k e = rw (drop-cons p i 0 h, drop-cons q i 0 k, ne_eqb (get_or p i 0) (get_or q i 0) e)
 
 pub same_end : (p q : List ℕ) (i : ℕ) → length p ≤ i → length q ≤ i → same (drop i p) (drop i q) ≡ true
 same_end p q i h k = rw (drop_of_length-le p h, drop_of_length-le q k)

@@ -6,7 +6,7 @@ use native.Mathlib.Decide.{dec_lt, ℕ_discrete}
 use mathlib.Core.Path.{◌≡◌, refl, sym, ap, ◌∙◌}
 use mathlib.Core.Logic.{◌≢◌}
 use mathlib.Core.List.{List, ◌++◌}
-use lib.ListN.{length, get_or, set, take, drop, replicate, length-set, length-take, length-drop, length-append, length-replicate, get_or-replicate, get_or-append}
+use lib.ListN.{length, get_or, set, take, drop, length-set, length-take, length-drop, length-append, get_or-append}
 use lib.Seq.{get_or-set_same, get_or-set_other, get_or-take, get_or-drop, get_or-append-add, length-take-le, ext_get_or}
 use Rattle.memory.specs.Lists.{list_of, replaced}
 use Rattle.memory.specs.Walked.{Spanned, Walked}
@@ -146,33 +146,6 @@ module _ {f : ℕ → ℕ → ℕ} {old : List ℕ} where
     pub ends : length l ≤ m → Walked f old (length old) l
     ends h = walked_to c.walked (omega (arith, c.count, c.walked.size))
 
--- A whole walk that writes 0 leaves zeros.
-pub walked_zero : {old l : List ℕ} {m : ℕ} → Walked (λ p word. 0) old m l → m ≡ length old → l ≡ replicate (length old) 0
-walked_zero {old} {l} c e =
-    ext_get_or 0 l (replicate (length old) 0) (c.size ∙ sym (length-replicate (length old) 0))
-    (λ p h.
-    let k : p < length old = omega (arith, c.size) in
-    c.inside p zero-le (omega arith) ∙ sym (get_or-replicate (length old) p 0 0 k))
-
-pub zero_ends : {old l : List ℕ} {m : ℕ} → Walking (λ p word. 0) old m l → length l ≤ m → l ≡ replicate (length old) 0
-zero_ends c h = walked_zero (ends c h) refl
-
 -- A whole walk that copies leaves the list that was copied.
 pub walked_copy : (from : List ℕ) {old l : List ℕ} → Walked (λ p word. get_or from p 0) old (length from) l → length old ≡ length from → l ≡ from
 walked_copy from {old} {l} c e = ext_get_or 0 l from (c.size ∙ e) (λ p h. c.inside p zero-le (omega (arith, c.size)))
-
--- A loop that copies, where it has come to word m: here the list that is copied bounds the walk.
-pub record Copying (from old : List ℕ) (m : ℕ) (l : List ℕ) : Type 0 where
-  pub count : m ≤ length from
-  pub walked : Walked (λ p word. get_or from p 0) old m l
-
-module _ {from old : List ℕ} where
-  pub copy_begins : Copying from old 0 old
-  copy_begins = record { count = zero-le; walked = walked_none }
-
-  module _ {m : ℕ} {l : List ℕ} (c : Copying from old m l) where
-    pub copy_goes_on : m < length from → length from ≤ length old → Copying from old (m + 1) (set l m (get_or from m 0))
-    copy_goes_on h room = record { count = omega arith; walked = walked_one (get_or from m 0) c.walked (omega arith) refl }
-
-    pub copy_ends : length from ≤ m → Walked (λ p word. get_or from p 0) old (length from) l
-    copy_ends h = walked_to c.walked (omega (arith, c.count))

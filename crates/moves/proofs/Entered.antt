@@ -5,55 +5,23 @@ use native.Mathlib.Decide.{dec_lt}
 use mathlib.Core.Path.{◌≡◌, ap, ◌∙◌}
 use mathlib.Core.List.{List}
 use mathlib.Core.Bool.{cond}
-use lib.ListN.{length, get_or, set, take, drop}
+use lib.ListN.{length, get_or, take, drop}
 use Rattle.memory.proofs.Geometry.{row_fits}
 use Rattle.memory.proofs.Part.{part_length, part_word, replaced_length, replaced_before, replaced_inside, replaced_after}
 use Rattle.memory.specs.Lists.{replaced}
 use Rattle.memory.specs.Walked.{Spanned, Walked}
 use Rattle.moves.specs.Edges.{LeftEntered, Entered}
 use Rattle.turns.specs.Layout.{Lent}
-use Rattle.moves.specs.Lent.{WithEdges, LeftEdged}
+use Rattle.moves.specs.Lent.{WithEdges}
 use Rattle.moves.proofs.Chosen.{in_span}
-use Rattle.moves.proofs.Rows.{Rows, rows, square}
+use Rattle.moves.proofs.Rows.{square}
 use Rattle.turns.proofs.Geometry.{rows_apart}
-use Rattle.moves.proofs.Stored.{stored_none, column_one, same_row}
+use Rattle.moves.proofs.Stored.{same_row}
 use Rattle.turns.specs.Spans.{Spans}
 use Rattle.moves.specs.Stored.{Stored}
 use Rattle.turns.specs.Turn.{live, Phase, step_of}
 use Rattle.turns.specs.declared.columns.Columns.{Columns}
 use Rattle.turns.specs.declared.turn.Turn.{Turn}
-
--- The loop of the left edge, where it has come to row i.
-pub record Entering (n from to : ℕ) (left old : List ℕ) (i : ℕ) (l : List ℕ) : Type 0 where
-  pub edged : LeftEdged n from to left old
-  pub first : from ≤ i
-  pub within : i ≤ to
-  pub rows : Rows n i
-  pub stored : LeftEntered n from i left old l
-
-pub begins : {n from to : ℕ} {left old : List ℕ} → LeftEdged n from to left old → Entering n from to left old from old
-begins edged = record {
-  edged = edged;
-  first = omega arith;
-  within = edged.order;
-  rows = rows edged.most (omega (arith, edged.order, edged.within));
-  stored = stored_none (λ j q. omega (arith, q.0, q.1));
-}
-
-module _ {n from to i : ℕ} {left old l : List ℕ} (c : Entering n from to left old i l) where
-  pub goes_on : {v : ℕ} → i < to → v ≡ get_or left i 0 → Entering n from to left old (i + 1) (set l (n * n + i * n) v)
-  goes_on {v} more e =
-      let row : i < n = omega (arith, c.edged.within) in
-      record {
-        edged = c.edged;
-        first = omega (arith, c.first);
-        within = omega arith;
-        rows = rows c.edged.most (omega arith);
-        stored = column_one n from i v c.stored c.first row c.edged.long e;
-      }
-
-  pub ends : to ≤ i → LeftEntered n from to left old l
-  ends last = let e : i ≡ to = omega (arith, c.within) in rw e at c.stored
 
 -- A word that is not in column 0.
 off_column : (n i j m : ℕ) → 1 ≤ j → j < n → n * n + (i * n + j) ≡ n * n + m * n → ⊥
@@ -84,7 +52,7 @@ part_copied at w from w' source {l} {m} fits fits' same copied = record {
     long = copied.size ∙ part_length at w l fits
 
 -- Whatever was stored, the memory kept its length: the row's span is inside it.
-pub top_fits : {n count : ℕ} {s : Turn} {r : Columns} {P : ℕ → Type 0} {place value : ℕ → ℕ} {old l : List ℕ} → Lent n count s old
+top_fits : {n count : ℕ} {s : Turn} {r : Columns} {P : ℕ → Type 0} {place value : ℕ → ℕ} {old l : List ℕ} → Lent n count s old
     → Spans n (live count) (step_of n s) r → Stored P place value old l → 2 * (n * n) + r.to ≤ length l
 top_fits {n} lent span stored = omega (arith, stored.size, span.within, lent.long, square n)
 

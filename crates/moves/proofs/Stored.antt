@@ -1,17 +1,14 @@
--- Stores at some places: none, one more in a column.
+-- Stores at some places: one more in a column.
 use Prim.Native.Nat.{ℕ, ◌+◌, ◌*◌, ◌<◌, ◌≤◌}
 use native.Mathlib.Omega.{arith}
 use native.Mathlib.Decide.{dec_lt, ℕ_discrete}
-use mathlib.Core.Path.{◌≡◌, refl, ◌∙◌}
+use mathlib.Core.Path.{◌≡◌, ◌∙◌}
 use mathlib.Core.List.{List}
 use lib.ListN.{length, get_or, set, length-set}
 use lib.Seq.{get_or-set_same, get_or-set_other}
 use Rattle.memory.proofs.Geometry.{row_fits}
 use Rattle.turns.proofs.Geometry.{rows_apart}
 use Rattle.moves.specs.Stored.{Stored}
-
-pub stored_none : {P : ℕ → Type 0} {place value : ℕ → ℕ} {old : List ℕ} → ((j : ℕ) → P j → ⊥) → Stored P place value old old
-stored_none f = record { size = refl; put = λ j h. absurd (f j h); kept = λ p h. refl }
 
 -- Rows are apart.
 pub same_row : (n i m : ℕ) → 1 ≤ n → n * n + i * n ≡ n * n + m * n → i ≡ m

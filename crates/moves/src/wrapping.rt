@@ -10,10 +10,8 @@ fn wrap_left(n: usize, planes: &[u16], edges: &mut [u16])
     requires { WithEdges n planes.now edges.old }
     ensures { LeftWrapped n planes.now edges.old (2 * n) edges.new }
 {
-    let mut i = 0;
-    while i < n {
+    for i in 0..n {
         edges[n + i] = planes[n * n + (i * n + n - 1)];
-        i += 1;
     }
 }
 
@@ -23,7 +21,6 @@ pub fn wrap(n: usize, planes: &[u16], edges: &mut [u16])
     ensures { Wrapped n planes.now edges.old edges.new }
 {
     let end = 3 * (n * n);
-    let at = end - n;
-    copy(&planes[at..end], edges);
+    copy(&planes[end - n..end], edges);
     wrap_left(n, planes, edges);
 }

@@ -1,20 +1,19 @@
 -- What is claimed of the call on bytes.
-use Prim.Native.Nat.{ℕ, zero, suc, ◌+◌, ◌*◌, ◌/◌, ◌%◌, ◌<◌, ◌≤◌}
-use native.Mathlib.Nat.{div-add-mod', not-suc-le-zero}
+use Prim.Native.Nat.{ℕ, ◌+◌, ◌*◌, ◌/◌, ◌%◌, ◌<◌}
+use native.Mathlib.Nat.{div-add-mod'}
 use native.Mathlib.Omega.{arith}
 use mathlib.Core.Path.{◌≡◌, refl, ap₂}
-use mathlib.Core.Logic.{◌⊎◌, inl, inr}
+use mathlib.Core.Logic.{inl, inr}
 use mathlib.Core.List.{List, [], ◌∷◌}
 use lib.ListN.{length, get_or}
 use borrow.Author.Tests.{ne_eqb}
-use Rattle.refusals.specs.Conditions.{Exactly, Words16}
+use Rattle.refusals.specs.Conditions.{Exactly}
 use Rattle.refusals.proofs.First.{none_applied}
 use Rattle.refusals.proofs.Conditions.{applies, passes, row, none, decides_outside, decides_differ}
 use Rattle.semiring.specs.Algebra.{top_of}
 use Rattle.semiring.specs.Named.{named_of}
 use Rattle.semiring.specs.declared.Algebra.{Algebra}
-use Rattle.semiring.specs.declared.Named.{Named}
-use Rattle.semiring.specs.declared.Named.TheVariants.{Known, Unknown}
+use Rattle.std.specs.Prelude.{Option, Some as Known, None as Unknown}
 use Rattle.semiring.proofs.Above.{words_below}
 use Rattle.semiring.proofs.Numbers.{Names, named_or_above, known_below, decides_reach}
 use Rattle.closure.specs.Elimination.{closure, eliminated}
@@ -33,7 +32,7 @@ round_trip (word ∷ words) =
     let whole : word % 256 + 256 * (word / 256) ≡ word = omega (arith, div-add-mod' word 256) in
     ap₂ (λ (x : ℕ) (l : List ℕ). x ∷ l) whole (round_trip words)
 
-best_after : (d : Named) (n : ℕ) (w r : List ℕ) → host_tests d n w r ≡ 0
+best_after : (d : Option Algebra) (n : ℕ) (w r : List ℕ) → host_tests d n w r ≡ 0
     → (a : Algebra) × (d ≡ Known a)
     × ((i j : ℕ) → i < n → j < n → Best a n (decoded w) i j (get_or (decoded (host_after d n w r)) (i * n + j) 0))
 unfolding eliminated
@@ -65,7 +64,7 @@ host_refusals algebra n w r h = go (named_or_above algebra)
         none)))))
     go (inr (unknown, above)) = rw unknown (applies above)
 
-kept_by : (d : Named) (n : ℕ) (w r : List ℕ) → (host_tests d n w r ≡ 0 → ⊥) → host_after d n w r ≡ r
+kept_by : (d : Option Algebra) (n : ℕ) (w r : List ℕ) → (host_tests d n w r ≡ 0 → ⊥) → host_after d n w r ≡ r
 kept_by Unknown n w r refused = refl
 kept_by (Known a) n w r refused = rw (ne_eqb (host_tests (Known a) n w r) 0 refused)
 

@@ -1,4 +1,2 @@
-pub mod ByteCall
 pub mod ByteClaims
-pub mod Refusals
 pub mod Rooms

@@ -1,5 +1,4 @@
 pub mod Bytes
-pub mod Closed
 pub mod Eliminated
 pub mod EliminatedBytes
 pub mod inner

@@ -4,12 +4,12 @@ use mathlib.Core.Path.{◌≡◌, refl}
 use mathlib.Core.List.{List, ◌++◌}
 use Rattle.refusals.proofs.First.{Clear, none_applied, clear_before, clear_after}
 use Rattle.semiring.specs.declared.Algebra.{Algebra}
-use Rattle.semiring.specs.declared.Named.TheVariants.{Known}
 use Rattle.closure.specs.Tests.{elimination_table}
 use Rattle.closure.proofs.Accepted.{Accepted, clear_accepted}
 use Rattle.ranges.specs.Between.{Inverted}
 use Rattle.ranges.specs.Tests.{inversion_table, range_table, range_tests}
 use Rattle.ranges.proofs.Inverted.{decides_inverted}
+use Rattle.std.specs.Prelude.{Some as Known}
 
 pub record RangeAccepted (a : Algebra) (n : ℕ) (best worst r s : List ℕ) : Type 0 where
   pub first : Accepted a n best r

@@ -11,7 +11,6 @@ use Rattle.refusals.proofs.First.{none_applied, first_before, first_after, first
 use Rattle.semiring.specs.Algebra.{Word, top_of}
 use Rattle.semiring.specs.declared.Algebra.{Algebra}
 use Rattle.semiring.specs.declared.Algebra.TheVariants.{Reach, Distance, Steepest}
-use Rattle.semiring.specs.declared.Named.TheVariants.{Known}
 use Rattle.semiring.proofs.Above.{none_above, words_below}
 use Rattle.semiring.proofs.Betters.{unbettered_good}
 use Rattle.semiring.proofs.Order.{good_trans, not_bettered}
@@ -21,6 +20,7 @@ use Rattle.ranges.specs.Between.{Between, TableBetween, Inverted}
 use Rattle.ranges.specs.Tests.{inverted, inversion_table, range_tests}
 use Rattle.ranges.specs.claims.Between.{Within, BetweenExactlyClaim, TablesExactly, RangeEmpty}
 use Rattle.ranges.proofs.Inverted.{decides_inverted}
+use Rattle.std.specs.Prelude.{Some as Known}
 
 -- no word outside a table either: there it reads as 0
 pub between_words : {a : Algebra} {n : ℕ} {best worst w : List ℕ} → TableBetween a n best worst w → (p : ℕ) → Word a (get_or w p 0)

@@ -7,8 +7,6 @@ use lib.ListN.{length, get_or}
 use Rattle.semiring.specs.Algebra.{Word}
 use Rattle.semiring.specs.Named.{named_of}
 use Rattle.semiring.specs.declared.Algebra.{Algebra}
-use Rattle.semiring.specs.declared.Named.{Named}
-use Rattle.semiring.specs.declared.Named.TheVariants.{Known, Unknown}
 use Rattle.semiring.proofs.Order.{AsGood, good_trans, not_bettered}
 use Rattle.closure.specs.Table.{entries}
 use Rattle.closure.specs.Elimination.{closure, eliminated}
@@ -24,6 +22,7 @@ use Rattle.ranges.specs.Tests.{range_tests, closed_after}
 use Rattle.ranges.specs.claims.Ranged.{Ranged, Planned, RangeClosed, RangePlanned}
 use Rattle.ranges.proofs.Accepted.{RangeAccepted, range_accepted}
 use Rattle.ranges.proofs.Between.{between_words}
+use Rattle.std.specs.Prelude.{Option, Some as Known, None as Unknown}
 
 -- the entries that an accepted call leaves
 left : (a : Algebra) (n : ℕ) (w : List ℕ) (i j : ℕ) → i < n → j < n → entries n (eliminated a n w) i j ≡ closure a n w i j
@@ -106,7 +105,7 @@ module _ {a : Algebra} {n : ℕ} {best worst r s : List ℕ} (input : RangeAccep
       })
 
 -- What an accepted call leaves.
-accepted_call : (d : Named) (n : ℕ) (best worst r s : List ℕ) → range_tests d n best worst r s ≡ 0
+accepted_call : (d : Option Algebra) (n : ℕ) (best worst r s : List ℕ) → range_tests d n best worst r s ≡ 0
     → (a : Algebra) × (d ≡ Known a) × RangeAccepted a n best worst r s
     × (closed_after d 0 n best r ≡ eliminated a n best)
     × (closed_after d 0 n worst s ≡ eliminated a n worst)

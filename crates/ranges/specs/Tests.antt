@@ -3,11 +3,10 @@ use Rattle.std.specs.Prelude.{ℕ, zero, suc, List, [], ◌∷◌, ◌++◌, Boo
 use Rattle.refusals.specs.Tests.{first}
 use Rattle.semiring.specs.Algebra.{betters}
 use Rattle.semiring.specs.declared.Algebra.{Algebra}
-use Rattle.semiring.specs.declared.Named.{Named}
-use Rattle.semiring.specs.declared.Named.TheVariants.{Known, Unknown}
 use Rattle.closure.specs.Table.{entries}
 use Rattle.closure.specs.Elimination.{eliminated}
 use Rattle.closure.specs.Tests.{elimination_table}
+use Rattle.std.specs.Prelude.{Option, Some as Known, None as Unknown}
 
 -- Whether some number below m meets the test.
 unfoldable pub some_below : ℕ → (ℕ → Bool) → Bool
@@ -30,11 +29,11 @@ inversion_table a n best worst = (inverted a n best worst, 24) ∷ []
 abbrev pub range_table : Algebra → ℕ → List ℕ → List ℕ → List ℕ → List ℕ → List (Bool × ℕ)
 range_table a n best worst r s = elimination_table a n best r ++ (elimination_table a n worst s ++ inversion_table a n best worst)
 
-abbrev pub range_tests : Named → ℕ → List ℕ → List ℕ → List ℕ → List ℕ → ℕ
+abbrev pub range_tests : Option Algebra → ℕ → List ℕ → List ℕ → List ℕ → List ℕ → ℕ
 range_tests Unknown n best worst r s = 1
 range_tests (Known a) n best worst r s = first 0 (range_table a n best worst r s)
 
 -- "give two closed tables": a table's elimination where no test applied; the result as it was at a refusal.
-abbrev pub closed_after : Named → ℕ → ℕ → List ℕ → List ℕ → List ℕ
+abbrev pub closed_after : Option Algebra → ℕ → ℕ → List ℕ → List ℕ → List ℕ
 closed_after Unknown number n w r = r
 closed_after (Known a) number n w r = cond (eqb number 0) (eliminated a n w) r

@@ -1,14 +1,9 @@
 -- A refused call keeps what it was lent, by what is claimed of the definitions behind it.
-use Prim.Native.Nat.{ℕ}
-use mathlib.Core.Path.{◌≡◌, sym, ap, ◌∙◌}
-use mathlib.Core.List.{List}
-use mathlib.Core.Bool.{cond}
-use lib.Dec.{eqb}
+use mathlib.Core.Path.{◌≡◌, ◌∙◌}
 use borrow.Author.Tests.{ne_eqb}
 use Rattle.systolic.specs.Run.{ran}
 use Rattle.systolic.specs.claims.Refusals.{RunKept}
 use Rattle.systolic.proofs.Refusals.{start_kept, run_kept}
-use Rattle.raudvisk.specs.ArrayCalls.{StartedHost, RanHost}
 use Rattle.raudvisk.specs.claims.Kept.{StartKeptHost, RunKeptHost}
 
 pub start_kept_host : StartKeptHost

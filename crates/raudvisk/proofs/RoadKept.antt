@@ -4,7 +4,7 @@ use mathlib.Core.Path.{◌≡◌, sym, ap, ◌∙◌}
 use mathlib.Core.List.{List}
 use Rattle.road_text.specs.declared.progress.Progress.{Progress}
 use Rattle.road_text.specs.Reading.{RoadReading, refused, accepted, road_reading_of}
-use Rattle.road_text.specs.claims.Refusals.{ByLines, line_refused, line_passed, end_refused, end_passed, ByTable, buffer_refused, by_lines}
+use Rattle.road_text.specs.claims.Refusals.{ByLines, line_passed, ByTable, by_lines}
 use Rattle.road_text.proofs.Refusals.{road_refusals}
 use Rattle.road_text.proofs.Memory.{refused_zeros}
 use Rattle.raudvisk.specs.RoadCalls.{number_in, points_after}

@@ -2,9 +2,9 @@
 ghost use Rattle.systolic.specs.Run.{ran};
 ghost use Rattle.raudvisk.specs.ArrayCalls.{StartedHost, RanHost};
 
-use array::{RunAnswer, run};
-use refusals::number;
-use starting::{start, start_number};
+use array::run;
+use refusals::answer_number;
+use starting::start;
 
 // It returns 0, or the refusal's number, and then leaves the state as it was.
 pub fn array_start(
@@ -16,8 +16,7 @@ pub fn array_start(
 ) -> u32
     ensures { StartedHost result algebras.now order sizes.now weights.now state.old state.new }
 {
-    let answer = start(algebras, order, sizes, weights, state);
-    start_number(answer)
+    answer_number(start(algebras, order, sizes, weights, state))
 }
 
 // It returns 0 and writes the ticks made, or returns the refusal's number, and then leaves all as it was.
@@ -35,14 +34,11 @@ pub fn array_run(
         (ran state.old algebras.now sizes.now weights.now allowance scratch.old
         results.old) }
 {
-    let answer = run(state, algebras, sizes, weights, allowance, scratch, results);
-    match answer {
-        RunAnswer::Made(ticks) => {
+    match run(state, algebras, sizes, weights, allowance, scratch, results) {
+        Ok(ticks) => {
             *made = ticks;
-            return 0;
+            0
         }
-        RunAnswer::Refused(reason) => {
-            return number(reason);
-        }
+        Err(reason) => u32::from(reason),
     }
 }

@@ -1,7 +1,8 @@
 // Two tables closed at once, for other languages.
 ghost use Rattle.ranges.specs.Given.{RangeGiven};
 
-use interval::{close_range, range_number};
+use interval::close_range;
+use refusals::answer_number;
 
 // It returns 0, or the refusal's number, and then leaves both results as they were.
 pub fn interval_close_range(
@@ -15,6 +16,5 @@ pub fn interval_close_range(
     ensures { RangeGiven result algebra size best.now worst.now
         best_result.old worst_result.old best_result.new worst_result.new }
 {
-    let answer = close_range(algebra, size, best, worst, best_result, worst_result);
-    range_number(answer)
+    answer_number(close_range(algebra, size, best, worst, best_result, worst_result))
 }

@@ -2,21 +2,17 @@
 ghost use Rattle.std.specs.Prelude.{length};
 ghost use Rattle.raudvisk.specs.RoadCalls.{RoadReadHost};
 
-use refusals::number;
-use road_text::{RoadAnswer, read_road};
+use road_text::read_road;
 
 // It returns 0 and writes POINTS, or returns the refusal's number, and then leaves `points` as it was.
 pub fn road_read(file: &[u8], table: &mut [u16], points: &mut usize) -> u32
     ensures { RoadReadHost (length table.old) file.now result points.old points.new table.new }
 {
-    let answer = read_road(file, table);
-    match answer {
-        RoadAnswer::Points(n) => {
+    match read_road(file, table) {
+        Ok(n) => {
             *points = n;
-            return 0;
+            0
         }
-        RoadAnswer::Refused(reason) => {
-            return number(reason);
-        }
+        Err(reason) => u32::from(reason),
     }
 }

@@ -1,8 +1,7 @@
 // A way traced back, for other languages.
 ghost use Rattle.ways.specs.Given.{WayGivenHost};
 
-use refusals::number;
-use traceback::{WayAnswer, way};
+use traceback::way;
 
 // It returns 0 and writes the way's length, or returns the refusal's number, and then leaves list and length as they were.
 pub fn traceback_way(
@@ -18,14 +17,11 @@ pub fn traceback_way(
     ensures { WayGivenHost result algebra size links.now closed.now from to
         list.old list.new length.old length.new }
 {
-    let answer = way(algebra, size, links, closed, from, to, list);
-    match answer {
-        WayAnswer::Points(count) => {
+    match way(algebra, size, links, closed, from, to, list) {
+        Ok(count) => {
             *length = count;
-            return 0;
+            0
         }
-        WayAnswer::Refused(reason) => {
-            return number(reason);
-        }
+        Err(reason) => u32::from(reason),
     }
 }

@@ -31,7 +31,3 @@ reason_some why.RoadForm e = omega arith
 reason_some why.RoadRange e = omega arith
 reason_some why.RoadCount e = omega arith
 reason_some why.RangeInverted e = omega arith
-
--- The number of the reason that a branch told.
-pub numbered : {reason told : Reason} {n : ℕ} → reason ≡ told → n ≡ reason_number told → n ≡ reason_number reason
-numbered e is = is ∙ sym (ap reason_number e)

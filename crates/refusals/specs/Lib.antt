@@ -1,5 +1,5 @@
 pub mod Reason
-pub mod Tested
+pub mod Answer
 pub mod Tests
 pub mod Conditions
 pub mod claims

@@ -3,6 +3,7 @@
 #![tactic(auto)]
 
 ghost use Rattle.std.specs.Prelude.{◌≡◌};
+ghost use Rattle.refusals.specs.Answer.{answer_number};
 ghost use Rattle.refusals.specs.Reason.{reason_number};
 
 // In the order of their numbers. Each call's answer holds one by value.
@@ -34,41 +35,46 @@ pub enum Reason {
     RangeInverted,
 }
 
-// What a table of tests gives: none of them applies, or the reason of the first that does.
-#[derive(Clone, Copy)]
-pub enum Tested {
-    Fit,
-    Unfit(Reason),
+// The paper's number of a reason.
+impl From<Reason> for u32 {
+    ghost from_gives = { λ reason number. number ≡ reason_number reason };
+
+    fn from(reason: Reason) -> u32 {
+        match reason {
+            Reason::AlgebraUnknown => 1,
+            Reason::SizeOutside => 2,
+            Reason::WeightsLength => 3,
+            Reason::ResultLength => 4,
+            Reason::WordAbove => 5,
+            Reason::OrderOutside => 6,
+            Reason::JobsOutside => 7,
+            Reason::JobSizeOutside => 8,
+            Reason::StateLength => 9,
+            Reason::StateUnfit => 10,
+            Reason::JobsDiffer => 11,
+            Reason::ScratchLength => 12,
+            Reason::TextLength => 13,
+            Reason::FormNotDue => 14,
+            Reason::NumeralOver => 15,
+            Reason::RowLength => 16,
+            Reason::TextEnd => 17,
+            Reason::BufferLength => 18,
+            Reason::WayUnfit => 19,
+            Reason::NoWay => 20,
+            Reason::RoadForm => 21,
+            Reason::RoadRange => 22,
+            Reason::RoadCount => 23,
+            Reason::RangeInverted => 24,
+        }
+    }
 }
 
-// The paper's number of a reason.
-pub fn number(reason: Reason) -> u32
-    ensures { result ≡ reason_number reason }
+// The number of a call's answer, 0 where the call was accepted.
+pub fn answer_number<T: Copy>(answer: Result<T, Reason>) -> u32
+    ensures { result ≡ answer_number answer }
 {
-    match reason {
-        Reason::AlgebraUnknown => 1,
-        Reason::SizeOutside => 2,
-        Reason::WeightsLength => 3,
-        Reason::ResultLength => 4,
-        Reason::WordAbove => 5,
-        Reason::OrderOutside => 6,
-        Reason::JobsOutside => 7,
-        Reason::JobSizeOutside => 8,
-        Reason::StateLength => 9,
-        Reason::StateUnfit => 10,
-        Reason::JobsDiffer => 11,
-        Reason::ScratchLength => 12,
-        Reason::TextLength => 13,
-        Reason::FormNotDue => 14,
-        Reason::NumeralOver => 15,
-        Reason::RowLength => 16,
-        Reason::TextEnd => 17,
-        Reason::BufferLength => 18,
-        Reason::WayUnfit => 19,
-        Reason::NoWay => 20,
-        Reason::RoadForm => 21,
-        Reason::RoadRange => 22,
-        Reason::RoadCount => 23,
-        Reason::RangeInverted => 24,
+    match answer {
+        Ok(_) => 0,
+        Err(reason) => u32::from(reason),
     }
 }

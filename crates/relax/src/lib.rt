@@ -5,8 +5,16 @@
 ghost use Rattle.std.specs.Prelude.{◌≡◌, ◌+◌, ◌*◌, ◌<◌, ◌≤◌, length};
 ghost use Rattle.relax.specs.Relax.{relaxed, relaxed_twice, PairWalked};
 ghost use Rattle.memory.specs.Walked.{Walked};
+ghost use Rattle.semiring.specs.Algebra.{sum_of, product_of};
 
 use semiring::{Algebra, product, sum};
+
+// The better of a word and the way through a point: x leads there, `link` on from there.
+fn through(a: Algebra, word: u16, x: u16, link: u16) -> u16
+    ensures { result ≡ sum_of a word (product_of a x link) }
+{
+    sum(a, word, product(a, x, link))
+}
 
 // The row through point k, whose own row is `via`.
 pub fn relax(a: Algebra, k: usize, via: &[u16], row: &mut [u16])
@@ -15,10 +23,8 @@ pub fn relax(a: Algebra, k: usize, via: &[u16], row: &mut [u16])
         row.old (length row.old) row.new }
 {
     let x = row[k];
-    let mut p = 0;
-    while p < row.len() {
-        row[p] = sum(a, row[p], product(a, x, via[p]));
-        p += 1;
+    for p in 0..row.len() {
+        row[p] = through(a, row[p], x, via[p]);
     }
 }
 
@@ -30,15 +36,10 @@ pub fn relax_two(a: Algebra, k: usize, via: &[u16], next: &[u16], row: &mut [u16
         row.old (length row.old) row.new }
 {
     let x = row[k];
-    let y = sum(a, row[k + 1], product(a, x, via[k + 1]));
-    let mut p = 0;
-    while p < row.len() {
-        row[p] = sum(
-            a,
-            sum(a, row[p], product(a, x, via[p])),
-            product(a, y, next[p]),
-        );
-        p += 1;
+    let y = through(a, row[k + 1], x, via[k + 1]);
+    for p in 0..row.len() {
+        let once = through(a, row[p], x, via[p]);
+        row[p] = through(a, once, y, next[p]);
     }
 }
 
@@ -48,24 +49,16 @@ pub fn relax_pair(a: Algebra, n: usize, k: usize, via: &[u16], next: &[u16], row
     ensures { PairWalked n (relaxed_twice a k via.now next.now) rows.old n rows.new }
 {
     let x = rows[k];
-    let y = sum(a, rows[k + 1], product(a, x, via[k + 1]));
+    let y = through(a, rows[k + 1], x, via[k + 1]);
     let u = rows[n + k];
-    let v = sum(a, rows[n + k + 1], product(a, u, via[k + 1]));
-    let mut p = 0;
-    while p < n {
+    let v = through(a, rows[n + k + 1], u, via[k + 1]);
+    for p in 0..n {
         let first = via[p];
         let second = next[p];
         let q = n + p;
-        rows[p] = sum(
-            a,
-            sum(a, rows[p], product(a, x, first)),
-            product(a, y, second),
-        );
-        rows[q] = sum(
-            a,
-            sum(a, rows[q], product(a, u, first)),
-            product(a, v, second),
-        );
-        p += 1;
+        let upper = through(a, rows[p], x, first);
+        rows[p] = through(a, upper, y, second);
+        let lower = through(a, rows[q], u, first);
+        rows[q] = through(a, lower, v, second);
     }
 }

@@ -1,5 +1,5 @@
 -- What `road` says of an input, by what reading it into a buffer came to.
-use Rattle.std.specs.Prelude.{ℕ, ◌<◌, ◌≤◌, ◌≡◌, List, length}
+use Rattle.std.specs.Prelude.{ℕ, ◌<◌, ◌≤◌, ◌≡◌, List, length, Some}
 use Rattle.input.specs.declared.Input.{Input}
 use Rattle.input.specs.declared.Input.TheVariants.{Full}
 use Rattle.input.specs.Reads.{ReadInto, WholeInput}
@@ -16,5 +16,5 @@ pub record ToTell (buffer : List ℕ) (input : Input) : Type 0 where
 
 -- An input read into a buffer with room for one byte more than the longest file.
 pub record InRoom (buffer : List ℕ) (input : Input) : Type 0 where
-  pub read : ReadInto (length buffer) input
+  pub read : ReadInto (length buffer) (Some input)
   pub room : length buffer ≡ 1048577

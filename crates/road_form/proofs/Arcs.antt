@@ -10,6 +10,7 @@ use mathlib.Core.Bool.{Bool, true, false, not, true≢false}
 use lib.ListN.{length, get_or, take}
 use lib.Dec.{eqb}
 use borrow.Author.Tests.{eqb-true, eqb-false, not-true, not-false}
+use Rattle.std.proofs.Common.{Option, Some, None}
 use Rattle.text.specs.Pieces.{bytes_of}
 use Rattle.text.specs.inner.Scan.{parts_from, Until}
 use Rattle.text.proofs.Cuts.{until_here, found_here, parts_some, placed_space, placed_end}
@@ -17,11 +18,10 @@ use Rattle.text.proofs.Walks.{spaces_none, spaces_found, passed_none, passed_one
 use Rattle.road_form.specs.declared.forms.Line.{Line}
 use Rattle.road_form.specs.declared.forms.Line.TheVariants.{Arc, Unknown}
 use Rattle.road_form.specs.declared.forms.Said.{Said}
-use Rattle.road_form.specs.declared.numbers.Taken.{Taken}
-use Rattle.road_form.specs.declared.numbers.Taken.TheVariants.{Number, Other}
+use Rattle.road_form.specs.declared.numbers.Number.{Number}
 use Rattle.road_form.specs.Forms.{arc_form}
 use Rattle.road_form.specs.inner.Numbers.{Takes, TakenFrom}
-use Rattle.road_form.specs.inner.Says.{Says, LineRead, LineSaid, UnknownSaid, EndsAt, ArcBegins, ArcTold, Plain}
+use Rattle.road_form.specs.inner.Says.{Says, LineRead, LineSaid, ArcSaid, EndsAt, ArcBegins, ArcTold, Plain}
 use Rattle.road_form.proofs.Digits.{next-end}
 use Rattle.road_form.proofs.Within.{line_length, line_byte, inside, at-end}
 use Rattle.road_form.proofs.Lines.{arc_first, arc_second, arc_third, arc_more, arc_whole}
@@ -114,68 +114,76 @@ module _ {text : List ℕ} (b : ArcBegins text) {e : ℕ} (u : Until (code "\n")
           let last : k + n ≡ length line - 1 = omega (arith, line_length u) in
           space_at_end line (omega (arith, two_bytes, line_length u)) no_comment (subst (λ (q : ℕ). get_or line q 0 ≡ code " ") last (only_spaces line n k l z))
 
-  module _ {t : Taken} (x : TakenFrom text 1 t) where
+  module _ {t : Option Number} (x : TakenFrom text 1 t) where
     first : Takes line 1 t
     first = x.takes e u (omega (arith, two_bytes))
 
-    no_first : t ≡ Other → LineRead line Unknown
+    no_first : t ≡ None → LineRead line Unknown
     no_first z = unknown_said (arc_first first z)
 
-    module _ {v e₁ : ℕ} {t' : Taken} (is₁ : t ≡ Number v e₁) (y : TakenFrom text e₁ t') where
-      second : Takes line e₁ t'
-      second = y.takes e u (omega (arith, (first.some v e₁ is₁).within, line_length u))
+    module _ {n : Number} {t' : Option Number} (is₁ : t ≡ Some n) (y : TakenFrom text n.end t') where
+      second : Takes line n.end t'
+      second = y.takes e u (omega (arith, (first.some n is₁).within, line_length u))
 
-      no_second : t' ≡ Other → LineRead line Unknown
+      no_second : t' ≡ None → LineRead line Unknown
       no_second z = unknown_said (arc_second first is₁ second z)
 
-      module _ {v' e₂ : ℕ} {t'' : Taken} (is₂ : t' ≡ Number v' e₂) (w : TakenFrom text e₂ t'') where
-        third : Takes line e₂ t''
-        third = w.takes e u (omega (arith, (second.some v' e₂ is₂).within, line_length u))
+      module _ {n' : Number} {t'' : Option Number} (is₂ : t' ≡ Some n') (w : TakenFrom text n'.end t'') where
+        third : Takes line n'.end t''
+        third = w.takes e u (omega (arith, (second.some n' is₂).within, line_length u))
 
-        no_third : t'' ≡ Other → LineRead line Unknown
+        no_third : t'' ≡ None → LineRead line Unknown
         no_third z = unknown_said (arc_third first is₁ second is₂ third z)
 
-        module _ {v'' e₃ : ℕ} (is₃ : t'' ≡ Number v'' e₃) where
-          third_within : e₃ ≤ e
-          third_within = omega (arith, (third.some v'' e₃ is₃).within, line_length u)
+        module _ {n'' : Number} (is₃ : t'' ≡ Some n'') where
+          third_within : n''.end ≤ e
+          third_within = omega (arith, (third.some n'' is₃).within, line_length u)
 
-          not_ended : e₃ < e → LineRead line Unknown
-          not_ended h = more_said e₃ h (λ p ps z. arc_more first is₁ second is₂ third is₃ z)
+          not_ended : n''.end < e → LineRead line Unknown
+          not_ended h = more_said n''.end h (λ p ps z. arc_more first is₁ second is₂ third is₃ z)
 
-          whole : e₃ ≡ e → LineRead line (Arc (record { from = v; to = v'; length = v'' }))
+          whole : n''.end ≡ e → LineRead line (Arc (record { from = n.value; to = n'.value; length = n''.value }))
           whole z =
-              let n = third.some v'' e₃ is₃ in
-              let last : e₃ - 1 ≡ length line - 1 = omega (arith, line_length u) in
-              closed_said (λ s. n.closed (rw last s))
-              (arc_whole first is₁ second is₂ third is₃ (ap (map bytes_of) (placed_end e₃ line (omega (arith, line_length u)))))
+              let last_one = third.some n'' is₃ in
+              let last : n''.end - 1 ≡ length line - 1 = omega (arith, line_length u) in
+              closed_said (λ s. last_one.closed (rw last s))
+              (arc_whole first is₁ second is₂ third is₃ (ap (map bytes_of) (placed_end n''.end line (omega (arith, line_length u)))))
 
 -- `arc_line`
-module _ {text : List ℕ} (b : ArcBegins text) {t : Taken} (x : TakenFrom text 1 t) where
-  unknown_line : {r : Said} → UnknownSaid text r → LineRead (take r.end text) Unknown → LineSaid text r
-  unknown_line {r} s read = record { ends = s.ends; says = subst (LineRead (take r.end text)) (sym s.line) read }
+module _ {text : List ℕ} (b : ArcBegins text) {t : Option Number} (x : TakenFrom text 1 t) where
+  missing : {r : Option Said} → r ≡ None → ((e : ℕ) → Until (code "\n") 0 text e → LineRead (take e text) Unknown) → ArcSaid text r
+  missing e read = record {
+    some = λ said z. cc;
+    none = λ z said s. record { ends = s.ends; says = subst (LineRead (take said.end text)) (sym s.line) (read said.end s.ends) };
+  }
 
-  pub first_missing : {r : Said} → t ≡ Other → UnknownSaid text r → LineSaid text r
-  first_missing z s = unknown_line s (no_first b s.ends x z)
+  pub first_missing : {r : Option Said} → t ≡ None → r ≡ None → ArcSaid text r
+  first_missing z e = missing e (λ e u. no_first b u x z)
 
-  module _ {v e₁ : ℕ} {t' : Taken} (is₁ : t ≡ Number v e₁) (y : TakenFrom text e₁ t') where
-    pub second_missing : {r : Said} → t' ≡ Other → UnknownSaid text r → LineSaid text r
-    second_missing z s = unknown_line s (no_second b s.ends x is₁ y z)
+  module _ {n : Number} {t' : Option Number} (is₁ : t ≡ Some n) (y : TakenFrom text n.end t') where
+    pub second_missing : {r : Option Said} → t' ≡ None → r ≡ None → ArcSaid text r
+    second_missing z e = missing e (λ e u. no_second b u x is₁ y z)
 
-    module _ {v' e₂ : ℕ} {t'' : Taken} (is₂ : t' ≡ Number v' e₂) (w : TakenFrom text e₂ t'') where
-      pub third_missing : {r : Said} → t'' ≡ Other → UnknownSaid text r → LineSaid text r
-      third_missing z s = unknown_line s (no_third b s.ends x is₁ y is₂ w z)
+    module _ {n' : Number} {t'' : Option Number} (is₂ : t' ≡ Some n') (w : TakenFrom text n'.end t'') where
+      pub third_missing : {r : Option Said} → t'' ≡ None → r ≡ None → ArcSaid text r
+      third_missing z e = missing e (λ e u. no_third b u x is₁ y is₂ w z)
 
-      module _ {v'' e₃ : ℕ} {ended : Bool} (is₃ : t'' ≡ Number v'' e₃) (at : EndsAt text e₃ ended) where
-        pub line_goes_on : {r : Said} → not ended ≡ true → UnknownSaid text r → LineSaid text r
-        line_goes_on z s =
-            unknown_line s
-            (not_ended b s.ends x is₁ y is₂ w is₃ (at.no (not-true ended z) _ s.ends (third_within b s.ends x is₁ y is₂ w is₃)))
+      module _ {n'' : Number} {ended : Bool} (is₃ : t'' ≡ Some n'') (at : EndsAt text n''.end ended) where
+        pub line_goes_on : not ended ≡ true → ArcSaid text None
+        line_goes_on z = missing refl (λ e u. not_ended b u x is₁ y is₂ w is₃ (at.no (not-true ended z) _ u (third_within b u x is₁ y is₂ w is₃)))
 
-        pub line_ends : not ended ≡ false → LineSaid text (record { line = Arc (record { from = v; to = v'; length = v'' }); end = e₃ })
+        line_ends : not ended ≡ false → LineSaid text (record { line = Arc (record { from = n.value; to = n'.value; length = n''.value }); end = n''.end })
         line_ends z =
             let (e, (past, u)) = next-end (code "\n") 0 text (length text) 0 passed_none (omega arith) in
-            let same : e₃ ≡ e = at.yes (not-false ended z) e u (third_within b u x is₁ y is₂ w is₃) in
+            let same : n''.end ≡ e = at.yes (not-false ended z) e u (third_within b u x is₁ y is₂ w is₃) in
             record { ends = rw same u; says = rw same (whole b u x is₁ y is₂ w is₃ same) }
+
+        pub arc_whole_line : not ended ≡ false
+            → ArcSaid text (Some (record { line = Arc (record { from = n.value; to = n'.value; length = n''.value }); end = n''.end }))
+        arc_whole_line z = record {
+          some = λ said e. let same : record { line = Arc (record { from = n.value; to = n'.value; length = n''.value }); end = n''.end } ≡ said = cc in subst (LineSaid text) same (line_ends z);
+          none = λ e. cc;
+        }
 
 -- `read_line`
 module _ {text : List ℕ} {told : Bool} (a : ArcTold text told) where

@@ -5,39 +5,25 @@ use native.Mathlib.Nat.{pow-succ', pow-le-pow_right}
 use native.Mathlib.Omega.{arith}
 use native.Mathlib.Decide.{dec_lt, ℕ_discrete}
 use mathlib.Core.Path.{◌≡◌, refl, sym, ap, ◌∙◌}
+use mathlib.Core.Logic.{inl, inr}
 use mathlib.Core.List.{List, [], ◌∷◌, ◌++◌, map}
-use mathlib.Core.Bool.{true, false, not, ◌||◌, and-false}
+use mathlib.Core.Bool.{true, false, not, and-false}
 use lib.ListN.{length, get_or, take, drop, length-drop}
 use lib.Seq.{take-suc, get_or-take, get_or-drop}
-use lib.Dec.{ltb}
-use borrow.Author.Tests.{lt-ltb, le-ltb}
 use mir.Syntax.{w64}
 use mir.Val.{Fits}
 use Rattle.refusals.specs.Tests.{outside}
 use Rattle.refusals.proofs.First.{above, within}
+use Rattle.std.proofs.Common.{Some, None}
+use Rattle.std.specs.Int.{IsInRange, IsOutOfRange}
 use Rattle.text.specs.Numeral.{digits, decimal}
 use Rattle.text.specs.Pieces.{bytes_of}
 use Rattle.text.specs.inner.Scan.{between, parts_from, Until, Unspaced}
 use Rattle.text.proofs.Cuts.{below-from, width, found_here, parts_some, placed_end}
+use Rattle.text.proofs.Digits.{digits_all, digits_not}
 use Rattle.text.proofs.Walks.{Passed, passed_one, passed_found, passed_all}
-use Rattle.road_form.specs.declared.numbers.Taken.TheVariants.{Number, Other}
 use Rattle.road_form.specs.Forms.{is_numeral}
 use Rattle.road_form.specs.inner.Numbers.{first_is, NumberAt, Takes}
-
-abbrev pub IsDigit : ℕ → Type 0
-IsDigit b = (48 ≤ b) × (b ≤ 57)
-
-all_digits : (p : List ℕ) → ((i : ℕ) → i < length p → IsDigit (get_or p i 0)) → digits p ≡ true
-unfolding digits
-all_digits [] h = refl
-all_digits (b ∷ p) h =
-    rw (le-ltb b 48 (h 0 (omega arith)).0, le-ltb 57 b (h 0 (omega arith)).1) (all_digits p (λ i k. h (suc i) (omega arith)))
-
-one_other : (p : List ℕ) (i : ℕ) → i < length p → (ltb (get_or p i 0) 48 || ltb 57 (get_or p i 0)) ≡ true → digits p ≡ false
-unfolding digits
-one_other [] i h e = absurd (omega arith)
-one_other (b ∷ p) zero h e = rw e
-one_other (b ∷ p) (suc i) h e = rw (one_other p i (omega arith) e) (and-false (not (ltb b 48 || ltb 57 b)))
 
 decimal_more : (v : ℕ) (p : List ℕ) (b : ℕ) → decimal v (p ++ (b ∷ [])) ≡ 10 * decimal v p + (b - 48)
 unfolding decimal
@@ -65,7 +51,7 @@ pub record Counted (line : List ℕ) (from start value at : ℕ) : Type 0 where
   pub least : start ≤ at
   pub most : at ≤ max start (length line)
   pub short : at ≤ start + 10
-  pub each : (q : ℕ) → start ≤ q → q < at → IsDigit (get_or line q 0)
+  pub each : (q : ℕ) → start ≤ q → q < at → IsInRange 48 57 (get_or line q 0)
   pub number : value ≡ decimal 0 (between start at line)
   pub bound : value + 1 ≤ 10 ^ (at - start)
 
@@ -94,19 +80,19 @@ module _ {line : List ℕ} {from start : ℕ} where
     pub tenfold_fits : at - start < 10 → Fits w64 (10 * value)
     tenfold_fits h = omega (arith, below h)
 
-    pub sum_fits : at - start < 10 → get_or line at 0 ≤ 57 → Fits w64 (10 * value + (get_or line at 0 - 48))
-    sum_fits h high = omega (arith, below h)
+    pub sum_fits : {d : ℕ} → at - start < 10 → d ≤ 255 → Fits w64 (10 * value + d)
+    sum_fits h small = omega (arith, below h)
 
-    pub counted_one : at < length line → 48 ≤ get_or line at 0 → get_or line at 0 ≤ 57 → at - start < 10
-        → Counted line from start (10 * value + (get_or line at 0 - 48)) (at + 1)
-    counted_one h low high few = record {
+    pub counted_one : {d : ℕ} → d ≡ get_or line at 0 - 48 → at < length line → 48 ≤ get_or line at 0 → get_or line at 0 ≤ 57 → at - start < 10
+        → Counted line from start (10 * value + d) (at + 1)
+    counted_one {d} is h low high few = record {
       spaces = c.spaces;
       least = omega (arith, c.least);
       most = omega arith;
       short = omega (arith, c.least);
-      each = below-from (λ q. IsDigit (get_or line q 0)) at c.each (low, high);
-      number = more;
-      bound = omega (arith, c.bound, power);
+      each = below-from (λ q. IsInRange 48 57 (get_or line q 0)) at c.each (low, high);
+      number = rw is more;
+      bound = rw is (omega (arith, c.bound, power));
     }
       where
         width_more : at + 1 - start ≡ suc (at - start)
@@ -138,7 +124,7 @@ module _ {line : List ℕ} {from start : ℕ} where
     number_here some u = record {
       part = between start at line;
       parts = parts_some (found_here c.spaces u) some;
-      numeral = rw (within 1 10 (length (between start at line)) (rw wide (omega arith)) (rw wide (omega (arith, c.short)))) digits_all;
+      numeral = rw (within 1 10 (length (between start at line)) (rw wide (omega arith)) (rw wide (omega (arith, c.short)))) each_digit;
       number = c.number;
       within = omega (arith, c.most);
       closed = λ e. let (low, high) = c.each (at - 1) (omega arith) (omega arith) in omega arith;
@@ -147,23 +133,23 @@ module _ {line : List ℕ} {from start : ℕ} where
         wide : length (between start at line) ≡ at - start
         wide = width (code " ") start at line c.least c.most (omega (arith, c.most))
 
-        digits_all : digits (between start at line) ≡ true
-        digits_all =
-            all_digits (between start at line)
+        each_digit : digits (between start at line) ≡ true
+        each_digit =
+            digits_all (between start at line)
             (λ i h.
             let k : i < at - start = rw wide at h in
             rw (get_or-take (at - start) (drop start line) i 0 k, get_or-drop start line i 0) (c.each (start + i) (omega arith) (omega arith)))
 
-    taken : NumberAt line from value at → Takes line from (Number value at)
+    taken : NumberAt line from value at → Takes line from (Some (record { value = value; end = at }))
     taken n = record {
-      some = λ v e q. let a : value ≡ v = cc in let b : at ≡ e = cc in rw (← a, ← b) n;
-      none = λ q. let z : ◌≡◌ {A = ℕ} 0 1 = cc in absurd (omega arith);
+      some = λ m q. let a : value ≡ m.value = cc in let b : at ≡ m.end = cc in rw (← a, ← b) n;
+      none = λ q. cc;
     }
 
-    other : first_is is_numeral (parts_from from line) ≡ false → Takes line from Other
-    other h = record { some = λ v e q. let z : ◌≡◌ {A = ℕ} 0 1 = cc in absurd (omega arith); none = λ q. h }
+    other : first_is is_numeral (parts_from from line) ≡ false → Takes line from None
+    other h = record { some = λ m q. cc; none = λ q. h }
 
-    pub taken_space : at < length line → get_or line at 0 ≡ code " " → Takes line from (Number value at)
+    pub taken_space : at < length line → get_or line at 0 ≡ code " " → Takes line from (Some (record { value = value; end = at }))
     taken_space h e = taken (number_here some (passed_found passed e))
       where
         some : start < at
@@ -173,15 +159,15 @@ module _ {line : List ℕ} {from start : ℕ} where
             by (yes q) = absurd (c.spaces.other (omega arith) (rw q e))
             by (no q) = omega (arith, c.least)
 
-    pub taken_end : length line ≤ at → start < at → Takes line from (Number value at)
+    pub taken_end : length line ≤ at → start < at → Takes line from (Some (record { value = value; end = at }))
     taken_end h some = taken (number_here some (passed_all passed h))
 
     -- no part, or one that is no numeral
-    pub other_none : length line ≤ at → at ≤ start → Takes line from Other
+    pub other_none : length line ≤ at → at ≤ start → Takes line from None
     other_none h k = other (rw (ap (map bytes_of) (c.spaces.same_parts ∙ placed_end start line (omega arith))))
 
     module _ (h : at < length line) (unspaced : get_or line at 0 ≡ code " " → ⊥) where
-      other_part : ((p : List ℕ) → at - start < length p → get_or p (at - start) 0 ≡ get_or line at 0 → is_numeral p ≡ false) → Takes line from Other
+      other_part : ((p : List ℕ) → at - start < length p → get_or p (at - start) 0 ≡ get_or line at 0 → is_numeral p ≡ false) → Takes line from None
       other_part unlike =
           let (e, (past, u)) = next-end (code " ") start line (length line) (at + 1) (passed_one passed h unspaced) (omega arith) in
           other (rw (parts_some (found_here c.spaces u) (omega (arith, c.least))) (unlike (between start e line) (wide e past u) (byte e past)))
@@ -196,15 +182,15 @@ module _ {line : List ℕ} {from start : ℕ} where
               ∙ get_or-drop start line (at - start) 0
               ∙ ap (λ (x : ℕ). get_or line x 0) q
 
-      other_byte : (ltb (get_or line at 0) 48 || ltb 57 (get_or line at 0)) ≡ true → Takes line from Other
-      other_byte t = other_part (λ p k e. rw (one_other p (at - start) k (rw e t)) (and-false (not (outside 1 10 (length p)))))
+      other_byte : IsOutOfRange 48 57 (get_or line at 0) → Takes line from None
+      other_byte o = other_part (λ p k e. rw (digits_not p (at - start) k (rw e o)) (and-false (not (outside 1 10 (length p)))))
 
     module _ (h : at < length line) where
-      pub other_below : get_or line at 0 < 48 → (get_or line at 0 ≡ code " " → ⊥) → Takes line from Other
-      other_below low unspaced = other_byte h unspaced (rw (lt-ltb (get_or line at 0) 48 low))
+      pub other_below : get_or line at 0 < 48 → (get_or line at 0 ≡ code " " → ⊥) → Takes line from None
+      other_below low unspaced = other_byte h unspaced (inl low)
 
-      pub other_above : 48 ≤ get_or line at 0 → 57 < get_or line at 0 → Takes line from Other
-      other_above low high = other_byte h (λ e. omega arith) (rw (le-ltb (get_or line at 0) 48 low, lt-ltb 57 (get_or line at 0) high))
+      pub other_above : 57 < get_or line at 0 → Takes line from None
+      other_above high = other_byte h (λ e. omega arith) (inr high)
 
-      pub other_long : 48 ≤ get_or line at 0 → 10 ≤ at - start → Takes line from Other
+      pub other_long : 48 ≤ get_or line at 0 → 10 ≤ at - start → Takes line from None
       other_long low many = other_part h (λ e. omega arith) (λ p k e. rw (above 1 10 (length p) (omega arith) (omega arith)))

@@ -1,13 +1,16 @@
 -- The form of a line by its first two bytes and its last.
-use Prim.Native.Nat.{ℕ, ◌-◌, ◌<◌, ◌≤◌}
+use Prim.Native.Nat.{ℕ, suc, ◌-◌, ◌<◌, ◌≤◌}
 use Prim.Native.Char.{code}
 use native.Mathlib.Omega.{arith}
-use native.Mathlib.Decide.{ℕ_discrete}
+use native.Mathlib.Decide.{dec_lt, ℕ_discrete}
 use mathlib.Core.Path.{◌≡◌, refl, sym, ap, ◌∙◌}
 use mathlib.Core.List.{List, [], ◌∷◌}
 use mathlib.Core.Bool.{Bool, true, false, cond, ◌&&◌, and-false}
-use lib.ListN.{length, get_or, take}
+use lib.ListN.{length, get_or, take, drop, drop_of_length-le}
 use lib.Dec.{eqb}
+use lib.Pointwise.{pointwise}
+use lib.Seq.{drop-cons}
+use Rattle.std.specs.Cmp.Lexicographic.{same_text, other_text}
 use borrow.Author.Tests.{eq-eqb, ne_eqb}
 use Rattle.text.specs.Pieces.{parts}
 use Rattle.text.specs.inner.Scan.{parts_from, Unspaced, Until}
@@ -118,3 +121,54 @@ module _ (line : List ℕ) (two : 2 ≤ length line) (spaced : get_or line 1 0 �
 
       pub problem : get_or line 0 0 ≡ code "p" → Says problem_form (parts_from 1 line) r → LineRead line r
       problem e says = record { is = says.is ∙ sym (by_parts closed (λ q. omega arith) ∙ rw e) }
+
+last_byte : (line : List ℕ) → 1 ≤ length line → drop (length line - 1) line ≡ get_or line (length line - 1) 0 ∷ []
+last_byte line some =
+    let past : length line ≤ suc (length line - 1) = omega arith in
+    drop-cons line (length line - 1) 0 (omega arith) ∙ ap (λ (l : List ℕ). get_or line (length line - 1) 0 ∷ l) (drop_of_length-le line past)
+
+-- `plain_line`: what the tests of the line's first bytes and its last tell
+module _ {r : Bool} where
+  pub comment_line : (line : List ℕ) → r ≡ pointwise eqb (99 ∷ []) (take 1 line) → r ≡ true → LineRead line Comment
+  comment_line [] told e = cc
+  comment_line (b ∷ line) told e =
+      let z : 99 ∷ [] ≡ b ∷ [] = same_text (99 ∷ []) (b ∷ []) (sym e ∙ told) in
+      comment (b ∷ line) (omega arith) cc
+
+  pub no_comment : (line : List ℕ) → r ≡ pointwise eqb (99 ∷ []) (take 1 line) → r ≡ false → get_or line 0 0 ≡ code "c" → ⊥
+  no_comment [] told e z = omega arith
+  no_comment (b ∷ line) told e z = other_text (99 ∷ []) (b ∷ []) (sym e ∙ told) (rw z refl)
+
+  pub no_problem : (line : List ℕ) → r ≡ pointwise eqb (112 ∷ 32 ∷ []) (take 2 line) → r ≡ false → 2 ≤ length line → get_or line 1 0 ≡ code " "
+      → get_or line 0 0 ≡ code "p" → ⊥
+  no_problem [] told e two spaced name = omega arith
+  no_problem (b ∷ []) told e two spaced name = omega arith
+  no_problem (b ∷ c ∷ line) told e two spaced name = other_text (112 ∷ 32 ∷ []) (b ∷ c ∷ []) (sym e ∙ told) (rw (name, spaced) refl)
+
+  pub problem_head : (line : List ℕ) → r ≡ pointwise eqb (112 ∷ 32 ∷ []) (take 2 line) → r ≡ true
+      → (2 ≤ length line) × (get_or line 1 0 ≡ code " ") × (get_or line 0 0 ≡ code "p")
+  problem_head [] told e = cc
+  problem_head (b ∷ []) told e = let z : 112 ∷ 32 ∷ [] ≡ b ∷ [] = same_text (112 ∷ 32 ∷ []) (b ∷ []) (sym e ∙ told) in cc
+  problem_head (b ∷ c ∷ line) told e =
+      let z : 112 ∷ 32 ∷ [] ≡ b ∷ c ∷ [] = same_text (112 ∷ 32 ∷ []) (b ∷ c ∷ []) (sym e ∙ told) in
+      (omega arith, cc, cc)
+
+  module _ (line : List ℕ) (some : 1 ≤ length line) (told : r ≡ pointwise eqb (32 ∷ []) (drop (length line - 1) line)) where
+    pub spaced_end : r ≡ true → get_or line (length line - 1) 0 ≡ code " "
+    spaced_end e =
+        let z : 32 ∷ [] ≡ get_or line (length line - 1) 0 ∷ [] = same_text (32 ∷ []) _ (sym e ∙ told) ∙ last_byte line some in
+        cc
+
+    pub closed_end : r ≡ false → get_or line (length line - 1) 0 ≡ code " " → ⊥
+    closed_end e z = other_text (32 ∷ []) _ (sym e ∙ told) (sym (last_byte line some ∙ ap (λ (b : ℕ). b ∷ []) z))
+
+-- a line that begins neither with `c` nor with `p` and a space
+pub other_line : (line : List ℕ) → (get_or line 0 0 ≡ code "c" → ⊥) → Plain line
+    → (2 ≤ length line → get_or line 1 0 ≡ code " " → get_or line 0 0 ≡ code "p" → ⊥) → LineRead line Unknown
+other_line line other plain no_p = by (dec_lt (length line) 1) (dec_lt (length line) 2) (ℕ_discrete (get_or line 1 0) (code " "))
+  where
+    by : Dec (length line < 1) → Dec (length line < 2) → Dec (get_or line 1 0 ≡ code " ") → LineRead line Unknown
+    by (yes h) two spaced = no_byte line h
+    by (no h) (yes k) spaced = one_byte line (omega arith) other k
+    by (no h) (no k) (no far) = long_head line (omega arith) other (omega arith) far
+    by (no h) (no k) (yes spaced) = other_head line (omega arith) spaced other plain (no_p (omega arith) spaced)

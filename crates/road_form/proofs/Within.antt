@@ -3,27 +3,19 @@ use Prim.Native.Nat.{ℕ, zero, suc, ◌+◌, ◌-◌, ◌<◌, ◌≤◌}
 use Prim.Native.Char.{code}
 use native.Mathlib.Omega.{arith}
 use native.Mathlib.Decide.{dec_lt, ℕ_discrete}
-use mathlib.Core.Path.{◌≡◌, refl, sym, ap, subst, ◌∙◌}
+use mathlib.Core.Path.{◌≡◌, sym, ap, subst, ◌∙◌}
 use mathlib.Core.Logic.{◌≢◌}
 use mathlib.Core.List.{List}
 use lib.ListN.{length, get_or, take, drop}
 use lib.Seq.{get_or-take, get_or-drop, ext_get_or, length-take-le}
+use Rattle.std.proofs.Common.{Option, Some, None}
 use Rattle.text.specs.Numeral.{decimal}
 use Rattle.text.specs.inner.Scan.{between, Until, Unspaced}
 use Rattle.text.proofs.Cuts.{width}
 use Rattle.text.proofs.Walks.{Spaces, spaces_none, spaces_one}
-use Rattle.road_form.specs.declared.numbers.Taken.{Taken}
-use Rattle.road_form.specs.declared.numbers.Taken.TheVariants.{Number, Other}
+use Rattle.road_form.specs.declared.numbers.Number.{Number}
 use Rattle.road_form.specs.inner.Numbers.{Takes, TakenFrom, Ended}
 use Rattle.road_form.proofs.Digits.{Counted, taken_space, taken_end, other_none, other_below, other_above, other_long}
-
--- `ended`
-module _ {start at value : ℕ} where
-  pub ended_none : at ≤ start → Ended start at value Other
-  ended_none h = record { some = λ k. absurd (omega arith); none = λ k. refl }
-
-  pub ended_some : start < at → Ended start at value (Number value at)
-  ended_some h = record { some = λ k. refl; none = λ k. absurd (omega arith) }
 
 -- spaces, byte by byte
 spaces_run : (from : ℕ) (l : List ℕ) (n : ℕ) → from + n ≤ length l → ((q : ℕ) → from ≤ q → q < from + n → get_or l q 0 ≡ code " ") → Spaces from l (from + n)
@@ -129,7 +121,7 @@ module _ {text : List ℕ} {e : ℕ} (u : Until (code "\n") 0 text e) where
 module _ {text : List ℕ} {from start value at : ℕ} (c : Counted text from start value at) where
   module _ (h : at < length text) where
     -- at a byte that is no LF
-    at_byte : {r : Taken} → get_or text at 0 ≢ code "\n"
+    at_byte : {r : Option Number} → get_or text at 0 ≢ code "\n"
         → ((e : ℕ) → Counted (take e text) from start value at → at < length (take e text) → get_or (take e text) at 0 ≡ get_or text at 0 → Takes (take e text) from r)
         → TakenFrom text from r
     at_byte other law = record {
@@ -138,34 +130,40 @@ module _ {text : List ℕ} {from start value at : ℕ} (c : Counted text from st
           law e (counted_line u c before) (omega (arith, line_length u)) (line_byte u at k);
     }
 
-    pub number_spaced : get_or text at 0 ≡ code " " → TakenFrom text from (Number value at)
+    pub number_spaced : get_or text at 0 ≡ code " " → TakenFrom text from (Some (record { value = value; end = at }))
     number_spaced f = at_byte (λ z. omega arith) (λ e d k b. taken_space d k (b ∙ f))
 
-    pub other_low : get_or text at 0 < 48 → get_or text at 0 ≢ code " " → get_or text at 0 ≢ code "\n" → TakenFrom text from Other
+    pub other_low : get_or text at 0 < 48 → get_or text at 0 ≢ code " " → get_or text at 0 ≢ code "\n" → TakenFrom text from None
     other_low low no_space no_end = at_byte no_end (λ e d k b. other_below d k (rw b low) (λ z. no_space (sym b ∙ z)))
 
-    pub other_high : 48 ≤ get_or text at 0 → 57 < get_or text at 0 → TakenFrom text from Other
-    other_high low high = at_byte (λ z. omega arith) (λ e d k b. other_above d k (rw b low) (rw b high))
+    pub other_high : 57 < get_or text at 0 → TakenFrom text from None
+    other_high high = at_byte (λ z. omega arith) (λ e d k b. other_above d k (rw b high))
 
-    pub other_eleventh : 48 ≤ get_or text at 0 → 10 ≤ at - start → TakenFrom text from Other
+    pub other_eleventh : 48 ≤ get_or text at 0 → 10 ≤ at - start → TakenFrom text from None
     other_eleventh low many = at_byte (λ z. omega arith) (λ e d k b. other_long d k (rw b low) many)
 
   -- at the end of the line
-  ended_line : {r : Taken} → Ended start at value r → (e : ℕ) → Counted (take e text) from start value at → length (take e text) ≤ at → Takes (take e text) from r
+  ended_line : {r : Option Number} → Ended start at value r → (e : ℕ) → Counted (take e text) from start value at → length (take e text) ≤ at → Takes (take e text) from r
   ended_line {r} n e d h = by (dec_lt start at)
     where
       by : Dec (start < at) → Takes (take e text) from r
       by (yes k) = rw (n.some k) (taken_end d h k)
       by (no k) = rw (n.none (omega arith)) (other_none d h (omega arith))
 
-  pub ended_at_lf : {r : Taken} → get_or text at 0 ≡ code "\n" → Ended start at value r → TakenFrom text from r
+  pub ended_at_lf : {r : Option Number} → get_or text at 0 ≡ code "\n" → Ended start at value r → TakenFrom text from r
   ended_at_lf f n = record {
     takes = λ e u before.
         let z : at ≡ e = at-end u at (not_past u c before) f in
         ended_line n e (counted_line u c before) (omega (arith, line_length u));
   }
 
-  pub ended_at_end : {r : Taken} → length text ≤ at → Ended start at value r → TakenFrom text from r
+  ended_at_end : {r : Option Number} → length text ≤ at → Ended start at value r → TakenFrom text from r
   ended_at_end h n = record {
     takes = λ e u before. ended_line n e (counted_line u c before) (omega (arith, line_length u, u.most));
   }
+
+  pub ended_with_text : {r : Option Number} → length text ≤ at → Ended start (length text) value r → TakenFrom text from r
+  ended_with_text {r} h n = ended_at_end h (record { some = some; none = λ k. n.none (omega arith) })
+    where
+      some : start < at → r ≡ Some (record { value = value; end = at })
+      some k = let z : at ≡ length text = omega (arith, c.most) in rw z (n.some (omega (arith, c.most)))

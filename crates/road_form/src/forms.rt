@@ -1,10 +1,12 @@
 // The form of the line that stands at the beginning of a text.
+ghost use Rattle.std.specs.Prelude.{unwrap_or};
 ghost use Rattle.text.specs.inner.Scan.{parts_from};
+ghost use Rattle.road_form.specs.declared.forms.Line.TheVariants.{Unknown};
 ghost use Rattle.road_form.specs.Forms.{problem_form};
-ghost use Rattle.road_form.specs.inner.Says.{Says, LineRead, LineSaid, EndsAt, UnknownSaid, ArcBegins, ArcTold, Plain};
+ghost use Rattle.road_form.specs.inner.Says.{Says, LineRead, LineSaid, EndsAt, UnknownSaid, ArcSaid, ArcBegins, ArcTold, Plain};
 
-use crate::numbers::{Taken, next_number};
-use text::{equal, next_part, until};
+use crate::numbers::next_number;
+use text::{next_part, until};
 
 // `a FROM TO LENGTH`
 #[derive(Clone, Copy)]
@@ -34,10 +36,69 @@ pub struct Said {
 fn ends_at(text: &[u8], at: usize) -> bool
     ensures { EndsAt text.now at result }
 {
-    if text.len() <= at {
-        return true;
+    text.len() <= at || text[at] == b'\n'
+}
+
+fn begins_arc(text: &[u8]) -> bool
+    ensures { ArcTold text.now result }
+{
+    matches!(text, [b'a', b' ', ..])
+}
+
+// An arc's line ends where its last numeral does: the LF is not looked for before, and each digit is read once.
+fn arc_line(text: &[u8]) -> Option<Said>
+    requires { ArcBegins text.now }
+    ensures { ArcSaid text.now result }
+{
+    let from = next_number(text, 1)?;
+    let to = next_number(text, from.end)?;
+    let length = next_number(text, to.end)?;
+    if !ends_at(text, length.end) {
+        return None;
     }
-    text[at] == b'\n'
+    let arc = Arc {
+        from: from.value,
+        to: to.value,
+        length: length.value,
+    };
+    Some(Said {
+        line: Line::Arc(arc),
+        end: length.end,
+    })
+}
+
+// What stands after `p`, where it has the form of a problem.
+fn problem_line(line: &[u8]) -> Option<Line>
+    requires { Plain line.now }
+    ensures { Says problem_form (parts_from 1 line.now) (unwrap_or result Unknown) }
+{
+    let kind = next_part(line, 1)?;
+    if &line[kind.start..kind.end] != b"sp".as_slice() {
+        return None;
+    }
+    let points = next_number(line, kind.end)?;
+    let arcs = next_number(line, points.end)?;
+    if next_part(line, arcs.end).is_some() {
+        return None;
+    }
+    Some(Line::Problem {
+        points: points.value,
+        arcs: arcs.value,
+    })
+}
+
+// A line that is no arc's.
+fn plain_line(line: &[u8]) -> Line
+    requires { Plain line.now }
+    ensures { LineRead line.now result }
+{
+    if line.starts_with(b"c") {
+        return Line::Comment;
+    }
+    if !line.starts_with(b"p ") || line.ends_with(b" ") {
+        return Line::Unknown;
+    }
+    problem_line(line).unwrap_or(Line::Unknown)
 }
 
 fn unknown(text: &[u8]) -> Said
@@ -49,99 +110,14 @@ fn unknown(text: &[u8]) -> Said
     }
 }
 
-fn begins_arc(text: &[u8]) -> bool
-    ensures { ArcTold text.now result }
-{
-    if text.len() < 2 {
-        return false;
-    }
-    if text[0] != b'a' {
-        return false;
-    }
-    text[1] == b' '
-}
-
-// An arc's line ends where its last numeral does: the LF is not looked for before, and each digit is read once.
-fn arc_line(text: &[u8]) -> Said
-    requires { ArcBegins text.now }
-    ensures { LineSaid text.now result }
-{
-    let Taken::Number { value: from, end } = next_number(text, 1) else {
-        return unknown(text);
-    };
-    let Taken::Number { value: to, end } = next_number(text, end) else {
-        return unknown(text);
-    };
-    let Taken::Number { value: length, end } = next_number(text, end) else {
-        return unknown(text);
-    };
-    if !ends_at(text, end) {
-        return unknown(text);
-    }
-    Said {
-        line: Line::Arc(Arc { from, to, length }),
-        end,
-    }
-}
-
-// What stands after `p`.
-fn problem_line(line: &[u8]) -> Line
-    requires { Plain line.now }
-    ensures { Says problem_form (parts_from 1 line.now) result }
-{
-    let kind = next_part(line, 1);
-    let start = kind.start;
-    let end = kind.end;
-    if end <= start {
-        return Line::Unknown;
-    }
-    if !equal(&line[start..end], b"sp") {
-        return Line::Unknown;
-    }
-    let Taken::Number { value: points, end } = next_number(line, end) else {
-        return Line::Unknown;
-    };
-    let Taken::Number { value: arcs, end } = next_number(line, end) else {
-        return Line::Unknown;
-    };
-    let more = next_part(line, end);
-    if more.start < more.end {
-        return Line::Unknown;
-    }
-    Line::Problem { points, arcs }
-}
-
-// A line that is no arc's. One of a single byte has no known form but `c`.
-fn plain_line(line: &[u8]) -> Line
-    requires { Plain line.now }
-    ensures { LineRead line.now result }
-{
-    if line.len() < 1 {
-        return Line::Unknown;
-    }
-    if line[0] == b'c' {
-        return Line::Comment;
-    }
-    if line.len() < 2 {
-        return Line::Unknown;
-    }
-    if line[1] != b' ' {
-        return Line::Unknown;
-    }
-    if line[line.len() - 1] == b' ' {
-        return Line::Unknown;
-    }
-    if line[0] == b'p' {
-        return problem_line(line);
-    }
-    Line::Unknown
-}
-
 pub fn read_line(text: &[u8]) -> Said
     ensures { LineSaid text.now result }
 {
     if begins_arc(text) {
-        return arc_line(text);
+        return match arc_line(text) {
+            Some(said) => said,
+            None => unknown(text),
+        };
     }
     let end = until(text, 0, b'\n');
     Said {

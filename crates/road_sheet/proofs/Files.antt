@@ -12,12 +12,12 @@ use Rattle.memory.proofs.ListOf.{length_list_of}
 use Rattle.semiring.specs.declared.Algebra.TheVariants.{Distance}
 use Rattle.closure.specs.Elimination.{eliminated}
 use Rattle.text.specs.Pieces.{lines}
-use Rattle.text.specs.inner.Put.{Put}
-use Rattle.text.proofs.Put.{put_as}
+use Rattle.text.specs.declared.page.Page.{Page}
+use Rattle.text.specs.inner.Printed.{Printed}
+use Rattle.text.proofs.Printed.{printed_as}
 use Rattle.refusals.specs.Reason.{reason_number}
 use Rattle.refusals.specs.declared.Reason.{Reason}
-use Rattle.road_text.specs.declared.answer.RoadAnswer.{RoadAnswer}
-use Rattle.road_text.specs.declared.answer.RoadAnswer.TheVariants.{Points, Refused}
+use Rattle.std.specs.Prelude.{Result, Ok, Err}
 use Rattle.road_text.specs.Reading.{accepted, road_reading_of, arcs_in, word_in, table_after, answered, RoadRead}
 use Rattle.road_sheet.specs.Rows.{table_text, refused_text}
 use Rattle.road_sheet.specs.Sheet.{printed, road_sheet_of}
@@ -25,19 +25,19 @@ use Rattle.road_sheet.specs.inner.Tables.{ToClose, Rooms}
 use Rattle.road_text.proofs.Whole.{accepted_points}
 use Rattle.road_sheet.proofs.Points.{table_words}
 
-module _ (file : List ℕ) {old closed : List ℕ} (asked : Rooms old closed) {answer : RoadAnswer} {table : List ℕ}
+module _ (file : List ℕ) {old closed : List ℕ} (asked : Rooms old closed) {answer : Result ℕ Reason} {table : List ℕ}
     (read : RoadRead (length old) file answer table) where
   same_reading : road_reading_of (length old) file ≡ road_reading_of 16384 file
   same_reading = ap (λ (m : ℕ). road_reading_of m file) asked.table_room
 
   -- a refusal
-  pub refusal_printed : {reason : Reason} {number : ℕ} → answer ≡ Refused reason → number ≡ reason_number reason → {page page' : List ℕ} {next : ℕ}
-      → Put page 0 (refused_text number) page' next → Put page 0 (road_sheet_of file) page' next
+  pub refusal_printed : {reason : Reason} {number : ℕ} → answer ≡ Err reason → number ≡ reason_number reason → {page page' : Page}
+      → Printed page (refused_text number) page' → Printed page (road_sheet_of file) page'
   refusal_printed e told p =
-      put_as p (ap refused_text told ∙ ap (printed file) (sym (ap answered e) ∙ read.outcome ∙ same_reading))
+      printed_as p (ap refused_text told ∙ ap (printed file) (sym (ap answered e) ∙ read.outcome ∙ same_reading))
 
   -- n points: the parts of the buffers that are lent on
-  module _ {n : ℕ} (e : answer ≡ Points n) where
+  module _ {n : ℕ} (e : answer ≡ Ok n) where
     reading : road_reading_of 16384 file ≡ accepted n
     reading = sym same_reading ∙ sym read.outcome ∙ ap answered e
 
@@ -74,7 +74,7 @@ module _ (file : List ℕ) {old closed : List ℕ} (asked : Rooms old closed) {a
       words = rw table_is (table_words (n * n) 16384 file);
     }
 
-    pub table_printed : {page page' : List ℕ} {next : ℕ} → Put page 0 (table_text n (eliminated Distance n (take (n * n) table))) page' next
-        → Put page 0 (road_sheet_of file) page' next
+    pub table_printed : {page page' : Page} → Printed page (table_text n (eliminated Distance n (take (n * n) table))) page'
+        → Printed page (road_sheet_of file) page'
     table_printed p =
-        put_as p (ap (λ (l : List ℕ). table_text n (eliminated Distance n (take (n * n) l))) table_is ∙ sym (ap (printed file) reading))
+        printed_as p (ap (λ (l : List ℕ). table_text n (eliminated Distance n (take (n * n) l))) table_is ∙ sym (ap (printed file) reading))

@@ -6,53 +6,46 @@ ghost use Rattle.std.specs.Prelude.{◌++◌, ◌≡◌, min, length, drop};
 ghost use Rattle.semiring.specs.declared.Algebra.TheVariants.{Distance};
 ghost use Rattle.closure.specs.Elimination.{eliminated};
 ghost use Rattle.text.specs.Page.{overwritten};
-ghost use Rattle.text.specs.inner.Put.{Put};
+ghost use Rattle.text.specs.inner.Printed.{Printed};
 ghost use Rattle.road_sheet.specs.Rows.{table_text};
 ghost use Rattle.road_sheet.specs.Sheet.{road_sheet_of};
 ghost use Rattle.road_sheet.specs.inner.Tables.{ToClose, Rooms};
 
 mod rows;
 
-use paths::{Closed, eliminate};
-use refusals::number;
-use road_text::{RoadAnswer, read_road};
+use paths::eliminate;
+use road_text::read_road;
 use rows::{put_refused, put_table};
+use text::Page;
 
 // Room for every text: the claim `Room`.
 pub const PAGE_BYTES: usize = 98304;
 
 // The table of n points, closed. It is never refused.
-fn print_closed(page: &mut [u8], n: usize, table: &[u16], closed: &mut [u16]) -> usize
+fn print_closed(page: &mut Page<'_>, n: usize, table: &[u16], closed: &mut [u16])
     requires { ToClose n table.now closed.old }
-    ensures { Put page.old 0 (table_text n (eliminated Distance n table.now)) page.new result }
+    ensures { Printed page.old (table_text n (eliminated Distance n table.now)) page.new }
 {
     // 1 is distance.
-    let answer = eliminate(1, n, table, closed);
-    match answer {
-        Closed::Done => put_table(page, n, closed),
-        Closed::Refused(reason) => 0,
-    }
+    let Ok(()) = eliminate(1, n, table, closed) else {
+        return;
+    };
+    put_table(page, n, closed);
 }
 
 // With buffers for the file's table and for the closed one.
-fn print_file(file: &[u8], page: &mut [u8], table: &mut [u16], closed: &mut [u16]) -> usize
+fn print_file(file: &[u8], page: &mut Page<'_>, table: &mut [u16], closed: &mut [u16])
     requires { Rooms table.old closed.old }
-    ensures { Put page.old 0 (road_sheet_of file.now) page.new result }
+    ensures { Printed page.old (road_sheet_of file.now) page.new }
 {
     let answer = read_road(file, table);
     match answer {
-        RoadAnswer::Points(n) => {
+        Ok(n) => {
             let words = n * n;
             print_closed(page, n, &table[..words], &mut closed[..words])
         }
-        RoadAnswer::Refused(reason) => put_refused(page, number(reason)),
+        Err(reason) => put_refused(page, u32::from(reason)),
     }
-}
-
-fn table_room() -> [u16; 16384]
-    ensures { length result ≡ 16384 }
-{
-    [0u16; 16384]
 }
 
 // Prints the closed table of a road file on a page from its first byte on, as much of it as there is room for, and answers how many bytes.
@@ -60,9 +53,11 @@ pub fn print_road(file: &[u8], page: &mut [u8]) -> usize
     ensures outcome { result ≡ min (length page.old) (length (road_sheet_of file.now)) }
     ensures memory { page.new ≡ overwritten (road_sheet_of file.now) page.old }
 {
-    let mut table = table_room();
-    let mut closed = table_room();
-    print_file(file, page, &mut table, &mut closed)
+    let mut table = [0u16; 16384];
+    let mut closed = [0u16; 16384];
+    let mut page = Page::new(page);
+    print_file(file, &mut page, &mut table, &mut closed);
+    page.at
 }
 
 // Prints the whole text of a road file: a page with that room holds it to its last byte.

@@ -7,17 +7,15 @@ use mathlib.Core.Path.{◌≡◌, refl, sym, ap, ap₂, ◌∙◌}
 use mathlib.Core.Logic.{◌≢◌}
 use mathlib.Core.List.{List, [], ◌∷◌, ◌++◌}
 use mathlib.Core.Bool.{Bool, true, false, cond, ◌&&◌}
-use lib.ListN.{length, get_or, set, replicate, length-set, get_or-replicate, length-replicate}
-use lib.Seq.{get_or-set_same, get_or-set_other}
+use lib.ListN.{length, get_or, set, take, drop, replicate, length-set, length-append, length-drop, get_or-append, get_or-replicate, length-replicate}
+use lib.Seq.{get_or-set_same, get_or-set_other, get_or-drop, length-take-le}
+use Rattle.std.proofs.lemmas.List.{get_or-append_right}
 use lib.Arith.{digits_div, digits_mod, digits_lt}
 use lib.Dec.{eqb}
-use mir.Syntax.{w64}
-use mir.Val.{Fits}
 use borrow.Author.Tests.{lt-ltb, le-ltb, eq-eqb, ne_eqb, eqb-true}
 use Rattle.memory.specs.Lists.{list_of}
 use Rattle.memory.specs.Walked.{Walked}
 use Rattle.memory.proofs.Any.{both_true}
-use Rattle.memory.proofs.Geometry.{row_room, place_room, bytes-room}
 use Rattle.memory.proofs.ListOf.{is_list_of}
 use Rattle.semiring.specs.declared.Algebra.TheVariants.{Distance}
 use Rattle.semiring.specs.Algebra.{none_word_of}
@@ -56,6 +54,26 @@ all_held {n} {m} {arcs} {l} e h = is_list_of m (word_of n arcs) l e (λ q k. h.w
 
 pub all_zero : {m : ℕ} {l : List ℕ} → Cleared m l → l ≡ list_of m (λ q. 0)
 all_zero {m} {l} c = is_list_of m (λ q. 0) l c.size (λ q k. c.zeros.word q (omega (arith, c.size)) ∙ word_past 0 [] q (omega arith))
+
+-- the front of a buffer after it was lent and filled with none
+pub laid : {k : ℕ} {old part : List ℕ} → k ≤ length old → part ≡ replicate (length (take k old)) 65535
+    → Walked (λ q word. none_word_of Distance) old k (part ++ drop k old)
+laid {k} {old} {part} h e =
+    let wide : length (take k old) ≡ k = length-take-le k old h in
+    let n : length part ≡ k = ap length e ∙ length-replicate (length (take k old)) 65535 ∙ wide in
+    record {
+      size = simp (length-append, length-drop) (omega arith);
+      inside = λ j a b.
+          get_or-append part (drop k old) 0 j (omega arith)
+          ∙ ap (λ (l : List ℕ). get_or l j 0) e
+          ∙ get_or-replicate (length (take k old)) j 65535 0 (omega arith);
+      before = λ j a. absurd (omega arith);
+      after = λ j a.
+          let q : k + (j - k) ≡ j = omega arith in
+          get_or-append_right part (drop k old) k j 0 n a
+          ∙ get_or-drop k old (j - k) 0
+          ∙ ap (λ (i : ℕ). get_or old i 0) q;
+    }
 
 -- a table with no arc
 module _ {n : ℕ} {old : List ℕ} where
@@ -182,15 +200,6 @@ module _ {n : ℕ} {a : Arc} (w : Within n a) where
 module _ {n : ℕ} {a : Arc} {old : List ℕ} (t : Joinable n a old) where
   pub place_inside : place n a < length old
   place_inside = omega (arith, in-square t.within, t.room.room)
-
-  pub row_fits : Fits w64 ((a.from - 1) * n)
-  row_fits = row_room t.room.few (a.from - 1) (row_below t.within)
-
-  pub place_fits : Fits w64 (place n a)
-  place_fits = place_room t.room.few (a.from - 1) (a.to - 1) (row_below t.within) (column_below t.within)
-
-  pub bytes_fit : Fits w64 (place n a * 2)
-  bytes_fit = bytes-room t.room.few (a.from - 1) (a.to - 1) (row_below t.within) (column_below t.within)
 
   -- the table with an arc more
   pub joined : {v x : ℕ} → v ≡ min (get_or old (place n a) 0) x → x ≡ held a.length → Joined n a old (set old (place n a) v)

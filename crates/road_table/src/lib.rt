@@ -2,42 +2,19 @@
 
 #![tactic(auto)]
 
-ghost use Rattle.std.specs.Prelude.{◌≡◌, ◌≤◌, length};
-ghost use Rattle.memory.specs.Walked.{Walked};
-ghost use Rattle.semiring.specs.declared.Algebra.TheVariants.{Distance as distance};
-ghost use Rattle.semiring.specs.Algebra.{none_word_of};
+ghost use Rattle.std.specs.Prelude.{◌≡◌};
 ghost use Rattle.road_table.specs.Table.{held};
-ghost use Rattle.road_table.specs.inner.Held.{Cleared, Room, DiagonalCleared, Begun, Joinable, Joined};
+ghost use Rattle.road_table.specs.inner.Held.{Room, DiagonalCleared, Begun, Joinable, Joined};
 
 use road_form::Arc;
-use semiring::Distance;
-
-pub fn clear(table: &mut [u16])
-    ensures { Cleared (length table.old) table.new }
-{
-    memory::clear(table);
-}
-
-// None in the first words.
-fn fill(table: &mut [u16], cells: usize)
-    requires { cells ≤ length table.old }
-    ensures { Walked (λ q word. none_word_of distance) table.old cells table.new }
-{
-    let mut q = 0;
-    while q < cells {
-        table[q] = Distance::NONE;
-        q += 1;
-    }
-}
+use semiring::{Distance, PathAlgebra};
 
 fn clear_diagonal(table: &mut [u16], points: usize)
     requires { Room points table.old }
     ensures { DiagonalCleared points points table.old table.new }
 {
-    let mut i = 0;
-    while i < points {
+    for i in 0..points {
         table[i * points + i] = 0;
-        i += 1;
     }
 }
 
@@ -46,7 +23,7 @@ pub fn begin(table: &mut [u16], points: usize)
     requires { Room points table.old }
     ensures { Begun points table.old table.new }
 {
-    fill(table, points * points);
+    table[..points * points].fill(Distance::NONE);
     clear_diagonal(table, points);
 }
 
@@ -54,10 +31,7 @@ pub fn begin(table: &mut [u16], points: usize)
 fn held_length(weight: u64) -> u16
     ensures { result ≡ held weight }
 {
-    if 65534 < weight {
-        return 65534;
-    }
-    weight as u16
+    weight.min(65534) as u16
 }
 
 // One arc more. An arc from a point to itself meets the 0 of the diagonal, which stands.
@@ -68,7 +42,5 @@ pub fn join(table: &mut [u16], points: usize, arc: Arc)
     let row = (arc.from - 1) as usize;
     let column = (arc.to - 1) as usize;
     let at = row * points + column;
-    let word = held_length(arc.length);
-    let standing = table[at];
-    table[at] = Distance::sum(standing, word);
+    table[at] = Distance::sum(table[at], held_length(arc.length));
 }

@@ -1,16 +1,15 @@
 -- The walk over the lines of a file: what holds after each, and what it says of the whole file.
-use Prim.Native.Nat.{ℕ, zero, suc, ◌+◌, ◌-◌, ◌<◌, ◌≤◌, ◌^◌}
+use Prim.Native.Nat.{ℕ, zero, suc, ◌+◌, ◌-◌, ◌<◌, ◌≤◌}
 use native.Mathlib.Omega.{arith}
 use mathlib.Core.Path.{◌≡◌, refl, sym, ap, subst, ◌∙◌}
 use mathlib.Core.Logic.{◌≢◌}
 use mathlib.Core.List.{List, [], ◌∷◌, ◌++◌, append-nil, append_assoc}
 use mathlib.Core.Bool.{true, false}
-use lib.Dec.{eqb, leb}
+use lib.Dec.{eqb}
 use lib.ListN.{length, take, drop, length-drop, drop_of_length-le}
 use lib.Seq.{take_all, drop-drop}
-use borrow.Author.Tests.{leb-true}
-use mir.Syntax.{w64}
-use mir.Val.{Fits}
+use borrow.Author.Tests.{eq-eqb, ne_eqb}
+use Rattle.std.proofs.Common.{Result, Ok, Err}
 use Rattle.refusals.specs.Tests.{first}
 use Rattle.refusals.specs.Reason.{reason_number}
 use Rattle.refusals.specs.declared.Reason.{Reason}
@@ -24,15 +23,11 @@ use Rattle.road_form.specs.declared.forms.Line.TheVariants.{Comment, Problem, Ar
 use Rattle.road_form.specs.declared.forms.Said.{Said}
 use Rattle.road_form.specs.inner.Says.{LineSaid}
 use Rattle.road_form.specs.Forms.{form_of}
-use Rattle.road_table.specs.inner.Held.{Holds, Cleared}
-use Rattle.road_text.specs.declared.answer.RoadAnswer.{RoadAnswer}
-use Rattle.road_text.specs.declared.answer.RoadAnswer.TheVariants.{Points, Refused}
+use Rattle.road_table.specs.inner.Held.{Holds}
 use Rattle.road_text.specs.declared.progress.Progress.{Progress}
-use Rattle.road_text.specs.declared.progress.Next.{Next}
-use Rattle.road_text.specs.declared.progress.Next.TheVariants.{On, Stop}
 use Rattle.road_text.specs.Steps.{start, after, end_tests}
 use Rattle.road_text.specs.Reading.{RoadReading, refused, accepted, unless, follow, arcs_of, arcs_in}
-use Rattle.road_text.specs.inner.Kept.{Ready, Kept, Passed, Stepped, Ended, Filled, Followed}
+use Rattle.road_text.specs.inner.Kept.{Kept, Passed, Stepped, Ended, Filled, Followed}
 
 -- tests that gave a number, and tests that gave none
 unless_not_zero : (k : ℕ) (r : RoadReading) → k ≢ 0 → unless k r ≡ refused k
@@ -42,15 +37,22 @@ unless_not_zero (suc k) r h = refl
 pub unless_some : (reason : Reason) (r : RoadReading) → unless (reason_number reason) r ≡ refused (reason_number reason)
 unless_some reason r = unless_not_zero (reason_number reason) r (reason_some reason)
 
+-- whether the `p` line has been read
+pub no_points : {n : ℕ} → n < 1 → eqb n 0 ≡ true
+no_points {n} h = eq-eqb n 0 (omega arith)
+
+pub some_points : {n : ℕ} → 1 ≤ n → eqb n 0 ≡ false
+some_points {n} h = ne_eqb n 0 (λ e. omega arith)
+
 -- the end of the file
 module _ {s : Progress} where
-  pub ended_refused : {reason : Reason} → First 0 (end_tests s) (reason_number reason) → Ended s (Refused reason)
+  pub ended_refused : {reason : Reason} → First 0 (end_tests s) (reason_number reason) → Ended s (Err reason)
   unfolding follow
   ended_refused {reason} found = record {
     outcome = sym (ap (λ (x : ℕ). unless x (accepted s.points)) (answers found) ∙ unless_some reason (accepted s.points));
   }
 
-  pub ended_points : First 0 (end_tests s) 0 → Ended s (Points s.points)
+  pub ended_points : First 0 (end_tests s) 0 → Ended s (Ok s.points)
   unfolding follow
   ended_points found = record { outcome = sym (ap (λ (x : ℕ). unless x (accepted s.points)) (answers found)) }
 
@@ -82,26 +84,7 @@ pub record Reached (file table₀ table : List ℕ) (s : Progress) (from : ℕ) 
   pub below : s.count ≤ from
   pub size : length table ≡ length table₀
 
-pub reached_none : (file : List ℕ) {table : List ℕ} {s : Progress} → s ≡ start → Cleared 16384 table → Reached file table table s 0
-unfolding lines
-reached_none file {table} {s} e c =
-    rw e
-    (record {
-      seen = [];
-      kept = record { room = c.size; few = omega arith; holds = c.zeros; none_yet = λ z. refl };
-      follows = refl;
-      arcs = refl;
-      below = omega arith;
-      size = refl;
-    })
-
 module _ {file table₀ table : List ℕ} {s : Progress} {from : ℕ} (r : Reached file table₀ table s from) where
-  pub still_ready : from < length file → length file < 2 ^ 63 → Ready s table
-  still_ready h k = record { room = r.kept.room; few = r.kept.few; count = omega (arith, r.below) }
-
-  pub reached_size : length table ≡ length table₀
-  reached_size = r.size
-
   -- a line more, from the bytes that are lent
   module _ {said : Said} (h : from < length file) (l : LineSaid (take (length file - from) (drop from file)) said) where
     abbrev rest : List ℕ
@@ -115,12 +98,6 @@ module _ {file table₀ table : List ℕ} {s : Progress} {from : ℕ} (r : Reach
 
     within : from + said.end ≤ length file
     within = omega (arith, in_rest.ends.most, length-drop from file)
-
-    pub end_fits : length file < 2 ^ 63 → Fits w64 (from + said.end)
-    end_fits k = omega (arith, within)
-
-    pub next_fits : (step : ℕ) → leb step 9 ≡ true → length file < 2 ^ 63 → Fits w64 (from + said.end + step)
-    next_fits step few k = omega (arith, within, leb-true step 9 few)
 
     abbrev line : List ℕ
     line = take said.end rest
@@ -137,15 +114,16 @@ module _ {file table₀ table : List ℕ} {s : Progress} {from : ℕ} (r : Reach
     followed_one : follow (line ∷ later) s ≡ follow (lines file) start
     followed_one = ap (λ (ls : List (List ℕ)). follow ls s) (sym split) ∙ r.follows
 
-    module _ {next : Next} {new : List ℕ} (stepped : Stepped s said.line table next new) where
+    module _ {next : Result Progress Reason} {new : List ℕ} (stepped : Stepped s said.line table next new) where
       step : Stepped s (form_of line) table next new
       step = subst (λ (x : Line). Stepped s x table next new) in_rest.says.is stepped
 
-      pub reached_one : {t : Progress} → next ≡ On t → length new ≡ length table → Reached file table₀ new t (from + said.end + 1)
+      pub reached_one : {t : Progress} → next ≡ Ok t → length new ≡ length table → Reached file table₀ new t (from + (said.end + 1))
       unfolding follow arcs_in
       reached_one {t} e same =
+          let z : from + (said.end + 1) ≡ from + said.end + 1 = omega arith in
           let p : Passed s (form_of line) table t new = step.goes t e in
-          record {
+          rw z (record {
             seen = r.seen ++ arcs_of (form_of line);
             kept = p.kept r.seen r.kept;
             follows = ap (follow later) p.state
@@ -156,12 +134,9 @@ module _ {file table₀ table : List ℕ} {s : Progress} {from : ℕ} (r : Reach
                 ∙ sym (append_assoc r.seen (arcs_of (form_of line)) (arcs_in later));
             below = rw p.state (omega (arith, count_after s (form_of line), r.below, in_rest.ends.least));
             size = same ∙ r.size;
-          }
+          })
 
-      pub stopped_size : length new ≡ length table → length new ≡ length table₀
-      stopped_size same = same ∙ r.size
-
-      pub stopped_here : {reason : Reason} → next ≡ Stop reason → length new ≡ length table → Followed file (Refused reason) new
+      pub stopped_here : {reason : Reason} → next ≡ Err reason → length new ≡ length table → Followed file (Err reason) new
       unfolding follow
       stopped_here {reason} e size =
           let is : refused (reason_number reason) ≡ follow (lines file) start
@@ -171,7 +146,7 @@ module _ {file table₀ table : List ℕ} {s : Progress} {from : ℕ} (r : Reach
           record { size = size ∙ r.kept.room; outcome = is; memory = subst (λ (x : RoadReading). Filled x (arcs_in (lines file)) new) is tt }
 
   -- all lines
-  pub reached_end : {answer : RoadAnswer} → length file ≤ from → Ended s answer → Followed file answer table
+  pub reached_end : {answer : Result ℕ Reason} → length file ≤ from → Ended s answer → Followed file answer table
   unfolding lines cut arcs_in
   reached_end {answer} h e = record { size = r.kept.room; outcome = e.outcome ∙ whole; memory = filled }
     where

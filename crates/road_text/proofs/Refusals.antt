@@ -15,29 +15,8 @@ use Rattle.road_form.specs.Forms.{form_of}
 use Rattle.road_text.specs.declared.progress.Progress.{Progress}
 use Rattle.road_text.specs.Steps.{start, line_tests, after, end_tests}
 use Rattle.road_text.specs.Reading.{RoadReading, accepted, unless, follow, buffer_tests, road_reading_of}
-use Rattle.road_text.specs.claims.Refusals.{
-  buffer_conditions,
-  FormFault,
-  no_known_form,
-  second_problem,
-  arc_before,
-  PointFault,
-  points_outside,
-  from_outside,
-  to_outside,
-  line_conditions,
-  end_conditions,
-  ByLines,
-  line_refused,
-  line_passed,
-  end_refused,
-  end_passed,
-  ByTable,
-  buffer_refused,
-  by_lines,
-  ReadExactly,
-  RoadRefusals,
-}
+use Rattle.road_text.specs.claims.Refusals.{buffer_conditions, FormFault, no_known_form, second_problem, arc_before, PointFault, points_outside, from_outside, to_outside}
+use Rattle.road_text.specs.claims.Refusals.{line_conditions, end_conditions, ByLines, line_refused, line_passed, end_refused, end_passed, ByTable, buffer_refused, by_lines, RoadRefusals}
 
 buffer_exactly : (m : ℕ) → Exactly (buffer_conditions m) (first 0 (buffer_tests m))
 unfolding buffer_conditions

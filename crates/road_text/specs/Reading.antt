@@ -1,5 +1,5 @@
 -- K7, "Road files in": what reading a whole file gives.
-use Rattle.std.specs.Prelude.{ℕ, zero, suc, ◌≡◌, List, [], ◌∷◌, ◌++◌, Bool, not, eqb}
+use Rattle.std.specs.Prelude.{ℕ, zero, suc, ◌≡◌, List, [], ◌∷◌, ◌++◌, Bool, not, eqb, Result, Ok, Err}
 use Rattle.memory.specs.Lists.{list_of}
 use Rattle.refusals.specs.Reason.{reason_number}
 use Rattle.refusals.specs.Tests.{first}
@@ -9,10 +9,9 @@ use Rattle.road_form.specs.declared.forms.Line.{Line}
 use Rattle.road_form.specs.declared.forms.Line.TheVariants.{Comment, Problem, Arc, Unknown}
 use Rattle.road_form.specs.Forms.{form_of}
 use Rattle.road_table.specs.Table.{word_of}
-use Rattle.road_text.specs.declared.answer.RoadAnswer.{RoadAnswer}
-use Rattle.road_text.specs.declared.answer.RoadAnswer.TheVariants.{Points, Refused}
 use Rattle.road_text.specs.declared.progress.Progress.{Progress}
 use Rattle.road_text.specs.Steps.{start, line_tests, after, end_tests}
+use Rattle.refusals.specs.declared.Reason.{Reason}
 
 -- The number of a refusal, or POINTS.
 pub data RoadReading : Type 0 where
@@ -58,11 +57,11 @@ abbrev pub table_after : ℕ → List ℕ → List ℕ
 table_after m file = list_of m (word_in (road_reading_of m file) (arcs_in (lines file)))
 
 -- What an answer says: "POINTS is returned", or the refusal's number.
-abbrev pub answered : RoadAnswer → RoadReading
-answered (Points n) = accepted n
-answered (Refused reason) = refused (reason_number reason)
+abbrev pub answered : Result ℕ Reason → RoadReading
+answered (Ok n) = accepted n
+answered (Err reason) = refused (reason_number reason)
 
 -- The contract of the call: its answer, and every word of the buffer after it.
-pub record RoadRead (m : ℕ) (file : List ℕ) (r : RoadAnswer) (table : List ℕ) : Type 0 where
+pub record RoadRead (m : ℕ) (file : List ℕ) (r : Result ℕ Reason) (table : List ℕ) : Type 0 where
   pub outcome : answered r ≡ road_reading_of m file
   pub memory : table ≡ table_after m file

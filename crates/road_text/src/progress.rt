@@ -1,19 +1,10 @@
 // What has been read of a road file, its table apart.
-use refusals::Reason;
-
-#[derive(Clone, Copy)]
+#[derive(Clone, Copy, Default)]
 pub struct Progress {
-    // 0 before the `p` line
+    // 0 before the `p` line; no Option, since the claim `RoadRefusals` speaks of the points 0
     pub points: usize,
     // ARCS, as the `p` line has it
     pub arcs: u64,
     // `a` lines so far
     pub count: u64,
-}
-
-// What a line leads to, or why it is refused.
-#[derive(Clone, Copy)]
-pub enum Next {
-    On(Progress),
-    Stop(Reason),
 }

@@ -2,7 +2,8 @@
 use Prim.Native.Nat.{ℕ, ◌<◌, ◌≤◌, zero-le}
 use native.Mathlib.Decide.{dec_lt}
 use native.Mathlib.Omega.{arith}
-use mathlib.Core.Path.{◌≡◌}
+use mathlib.Core.Path.{◌≡◌, sym}
+use mathlib.Core.Logic.{◌⊎◌, inl, inr}
 use mathlib.Core.List.{List}
 use mathlib.Core.Bool.{false, ◌||◌}
 use lib.ListN.{length, get_or, get_or-eq_default}
@@ -10,10 +11,19 @@ use lib.Dec.{ltb}
 use lib.Bits.{bit_or, or_add_and, and_le_l, and_le_r, or_lt}
 use borrow.Author.Tests.{le-ltb, lt-ltb, ltb-false}
 use Rattle.memory.proofs.Any.{none_any, any_none}
+use Rattle.semiring.specs.Algebra.{top_of}
 use Rattle.semiring.specs.Words.{any_above}
+use Rattle.semiring.specs.declared.Algebra.{Algebra}
+use Rattle.semiring.specs.declared.Algebra.TheVariants.{Distance, Steepest}
 
 pub none_above : (top : ℕ) (w : List ℕ) → ((p : ℕ) → p < length w → get_or w p 0 ≤ top) → any_above top w ≡ false
 none_above top w h = none_any (ltb top) w (λ p k. le-ltb top (get_or w p 0) (h p k))
+
+-- Outside reach no 16-bit word is above the largest one.
+pub none_outside_reach : (a : Algebra) (w : List ℕ) → (a ≡ Distance) ⊎ (a ≡ Steepest) → ((p : ℕ) → p < length w → get_or w p 0 ≤ 65535)
+    → false ≡ any_above (top_of a) w
+none_outside_reach a w (inl e) h = rw e (sym (none_above 65535 w h))
+none_outside_reach a w (inr e) h = rw e (sym (none_above 65535 w h))
 
 -- No word of the list is above, and neither is the default 0.
 pub words_below : (top : ℕ) (w : List ℕ) → any_above top w ≡ false → (p : ℕ) → get_or w p 0 ≤ top

@@ -1,5 +1,5 @@
 -- Which numbers name an algebra, and what test 5 decides for each.
-use Prim.Native.Nat.{ℕ, zero, suc, ◌<◌, ◌≤◌}
+use Prim.Native.Nat.{ℕ, zero, suc, ◌<◌}
 use native.Mathlib.Omega.{arith}
 use mathlib.Core.Path.{◌≡◌, refl}
 use mathlib.Core.Logic.{◌⊎◌, inl, inr}
@@ -13,7 +13,7 @@ use Rattle.semiring.specs.Words.{any_above, ReachAbove}
 use Rattle.semiring.specs.Named.{named_of, number_of}
 use Rattle.semiring.specs.declared.Algebra.{Algebra}
 use Rattle.semiring.specs.declared.Algebra.TheVariants.{Reach, Distance, Steepest}
-use Rattle.semiring.specs.declared.Named.TheVariants.{Known, Unknown}
+use Rattle.std.specs.Prelude.{None, Some as some}
 
 above_16 : (w : List ℕ) → Words16 w → Some (λ x. 65535 < x) w → ⊥
 above_16 w h (p, k, m) = let l = h p k in omega arith
@@ -35,7 +35,7 @@ decides_reach algebra a e w h = rw e (decides_above_top a w h)
 
 -- A number names an algebra, or it is above 2.
 abbrev pub Names : ℕ → Type 0
-Names algebra = ((a : Algebra) × (named_of algebra ≡ Known a) × (algebra ≡ number_of a)) ⊎ ((named_of algebra ≡ Unknown) × (2 < algebra))
+Names algebra = ((a : Algebra) × (named_of algebra ≡ some a) × (algebra ≡ number_of a)) ⊎ ((named_of algebra ≡ None) × (2 < algebra))
 
 pub named_or_above : (algebra : ℕ) → Names algebra
 named_or_above zero = inl (Reach, refl, refl)
@@ -44,8 +44,8 @@ named_or_above (suc (suc zero)) = inl (Steepest, refl, refl)
 named_or_above (suc (suc (suc n))) = inr (refl, omega arith)
 
 -- A condition over the algebra that the number names.
-pub of_known : (algebra : ℕ) {a : Algebra} {b : Bool} (P : Algebra → Type 0) → named_of algebra ≡ Known a → Decides b (P a)
-    → Decides b ((x : Algebra) × (named_of algebra ≡ Known x) × P x)
+pub of_known : (algebra : ℕ) {a : Algebra} {b : Bool} (P : Algebra → Type 0) → named_of algebra ≡ some a → Decides b (P a)
+    → Decides b ((x : Algebra) × (named_of algebra ≡ some x) × P x)
 of_known algebra {a} P known d = record {
   yes = λ e. (a, known, d.yes e);
   no = λ e (x, named, p). let k : x ≡ a = cc in d.no e (rw k at p);

@@ -3,7 +3,7 @@ ghost use Rattle.std.specs.Prelude.{◌≡◌};
 ghost use Rattle.semiring.specs.Algebra.{top_of};
 ghost use Rattle.semiring.specs.Words.{any_above};
 
-use crate::{Algebra, Reach};
+use crate::{Algebra, PathAlgebra, Reach};
 
 // Whether a word is above reach's top, which is 1: then it has a bit above the first. The bits of all words are taken together, with no
 // test of each, so that the walk runs on vectors at one step a word.
@@ -11,10 +11,8 @@ fn above_reach(words: &[u16]) -> bool
     ensures { result ≡ any_above 1 words.now }
 {
     let mut bits = 0u16;
-    let mut p = 0;
-    while p < words.len() {
-        bits = bits | words[p];
-        p += 1;
+    for word in words {
+        bits |= *word;
     }
     Reach::TOP < bits
 }
@@ -25,7 +23,6 @@ pub fn has_word_above(a: Algebra, words: &[u16]) -> bool
 {
     match a {
         Algebra::Reach => above_reach(words),
-        Algebra::Distance => false,
-        Algebra::Steepest => false,
+        Algebra::Distance | Algebra::Steepest => false,
     }
 }

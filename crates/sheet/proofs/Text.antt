@@ -3,20 +3,21 @@ use Prim.Native.Nat.{ℕ, zero, suc, ◌≤◌}
 use native.Mathlib.Omega.{arith}
 use mathlib.Core.Path.{◌≡◌, refl, sym, ap, ap₂, ◌∙◌}
 use mathlib.Core.List.{List, [], ◌∷◌}
+use Rattle.std.specs.Prelude.{Result, Ok, Err}
 use lib.ListN.{length, take}
 use lib.Seq.{length-take-le}
 use Rattle.job_list.specs.Jobs.{offset, jobs_of}
 use Rattle.job_list.proofs.Fits.{fits_small}
 use Rattle.job_reading.specs.declared.answer.Refusal.{Refusal as Why}
-use Rattle.job_reading.specs.declared.answer.Read.{Read}
-use Rattle.job_reading.specs.declared.answer.Read.TheVariants.{List as Listed, Refused}
+use Rattle.job_reading.specs.declared.answer.List.{List as Listed}
 use Rattle.job_reading.specs.Reading.{Refusal, Reading, refused, accepted, reading_of, algebras_in, sizes_in, weights_in, given, turned, answer_of, told, answered, ReadInto}
 use Rattle.job_form.specs.Buffer.{padded}
 use Rattle.job_list.specs.Fits.{ListAccepted, Small}
 use Rattle.job_form.proofs.Padded.{length-padded}
 use Rattle.job_reading.proofs.Whole.{whole, within_buffers}
-use Rattle.text.specs.inner.Put.{Put}
-use Rattle.text.proofs.Put.{put_as}
+use Rattle.text.specs.declared.page.Page.{Page}
+use Rattle.text.specs.inner.Printed.{Printed}
+use Rattle.text.proofs.Printed.{printed_as}
 use Rattle.sheet_form.specs.Lines.{refused_line}
 use Rattle.sheet_form.specs.Sheet.{whole_run, sheet_from, printed, sheet_of}
 
@@ -67,8 +68,8 @@ module _ (text : List ℕ) {l m n : ℕ} (asked : (l ≡ 16) × (m ≡ 16) × (n
         room = rw (isWeights, length-padded n ws) ws_fit;
       }
 
-  pub read_list : {answer : Read} {order jobs : ℕ} {algebras sizes weights : List ℕ} → answer ≡ Listed order jobs
-      → ReadInto l m n text answer algebras sizes weights → ReadList text order jobs algebras sizes weights
+  pub read_list : {answer : Result Listed Why} {list : Listed} {algebras sizes weights : List ℕ} → answer ≡ Ok list
+      → ReadInto l m n text answer algebras sizes weights → ReadList text list.order list.jobs algebras sizes weights
   read_list is told =
       read_by (reading_of l m n text) (sym same_reading) (sym (ap answered is) ∙ told.outcome) told.algebras_left told.sizes_left
       told.weights_left
@@ -77,11 +78,11 @@ module _ (text : List ℕ) {l m n : ℕ} (asked : (l ≡ 16) × (m ≡ 16) × (n
   refused_by (refused why') {why} e = let f : why ≡ why' = cc in ap (λ (x : Refusal). refused_line x.number x.line) f
   refused_by (accepted order ns ss ws) e = let z : ◌≡◌ {A = ℕ} 0 1 = cc in absurd (omega arith)
 
-  pub refusal_printed : {answer : Read} {why : Why} {algebras sizes weights : List ℕ} → answer ≡ Refused why
+  pub refusal_printed : {answer : Result Listed Why} {why : Why} {algebras sizes weights : List ℕ} → answer ≡ Err why
       → ReadInto l m n text answer algebras sizes weights
-      → {page page' : List ℕ} {next : ℕ} → Put page 0 (refused_line (told why).number (told why).line) page' next → Put page 0 (sheet_of text) page' next
+      → {page page' : Page} → Printed page (refused_line (told why).number (told why).line) page' → Printed page (sheet_of text) page'
   refusal_printed is read p =
-      put_as p (refused_by (reading_of 16 16 16384 text) (sym (ap answered is) ∙ read.outcome ∙ ap answer_of same_reading))
+      printed_as p (refused_by (reading_of 16 16 16384 text) (sym (ap answered is) ∙ read.outcome ∙ ap answer_of same_reading))
 
 -- The parts of the buffers that are lent on.
 module _ {text : List ℕ} {order jobs : ℕ} {algebras sizes weights : List ℕ} (r : ReadList text order jobs algebras sizes weights) where
@@ -113,10 +114,10 @@ module _ {text : List ℕ} {order jobs : ℕ} {algebras sizes weights : List ℕ
         ≡ sheet_of text
     list_sheet = rw weights_are (sym (ap printed r.reading))
 
-    pub list_printed : {page page' : List ℕ} {next : ℕ}
-        → Put page 0
+    pub list_printed : {page page' : Page}
+        → Printed page
         (sheet_from (jobs_of (take jobs algebras) order (take jobs sizes) (take words weights))
         (whole_run (take jobs algebras) order (take jobs sizes) (take words weights)))
-        page' next
-        → Put page 0 (sheet_of text) page' next
-    list_printed p = put_as p list_sheet
+        page'
+        → Printed page (sheet_of text) page'
+    list_printed p = printed_as p list_sheet

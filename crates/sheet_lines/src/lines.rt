@@ -1,12 +1,11 @@
 // The lines of a sheet.
-ghost use Rattle.text.specs.inner.Put.{Put};
 ghost use Rattle.refusals.specs.Reason.{reason_number};
-ghost use Rattle.sheet_form.specs.Lines.{spaced, refused_line, jobs_line, shown_word, out_line};
+ghost use Rattle.sheet_form.specs.Lines.{refused_line, jobs_line, shown_word, out_line};
+ghost use Rattle.text.specs.inner.Printed.{Printed};
 
 use job_reading::Refusal;
-use refusals::number;
-use semiring::{Algebra, Distance, Steepest};
-use text::{put_number, put_text, put_unless};
+use semiring::{Algebra, Distance, PathAlgebra, Steepest};
+use text::Page;
 
 // An entry of a job, the job's size and the tick on which the entry leaves.
 #[derive(Clone, Copy)]
@@ -18,59 +17,49 @@ pub struct Entry {
     pub tick: u32,
 }
 
-// A number after a space.
-fn put_spaced(page: &mut [u8], at: usize, n: u32) -> usize
-    ensures { Put page.old at (spaced n) page.new result }
-{
-    let at = put_text(page, at, b" ");
-    put_number(page, at, n)
-}
-
 // The line of a refusal, which is the whole sheet.
-pub fn put_refused(page: &mut [u8], why: Refusal) -> usize
-    ensures { Put page.old 0 (refused_line (reason_number why.reason) why.line) page.new result }
+pub fn put_refused(page: &mut Page<'_>, why: Refusal)
+    ensures { Printed page.old (refused_line (reason_number why.reason) why.line) page.new }
 {
-    let reason = why.reason;
-    let told = number(reason);
-    let at = put_text(page, 0, b"(refused");
-    let at = put_spaced(page, at, told);
-    let at = put_spaced(page, at, why.line);
-    put_text(page, at, b")\n")
+    page.text(b"(refused");
+    page.spaced(u32::from(why.reason));
+    page.spaced(why.line);
+    page.text(b")\n");
 }
 
 // The first line: jobs, ticks made.
-pub fn put_jobs(page: &mut [u8], jobs: u32, ticks: u32) -> usize
-    ensures { Put page.old 0 (jobs_line jobs ticks) page.new result }
+pub fn put_jobs(page: &mut Page<'_>, jobs: u32, ticks: u32)
+    ensures { Printed page.old (jobs_line jobs ticks) page.new }
 {
-    let at = put_text(page, 0, b"(jobs");
-    let at = put_spaced(page, at, jobs);
-    let at = put_text(page, at, b" ticks");
-    let at = put_spaced(page, at, ticks);
-    put_text(page, at, b")\n")
+    page.text(b"(jobs");
+    page.spaced(jobs);
+    page.text(b" ticks");
+    page.spaced(ticks);
+    page.text(b")\n");
 }
 
 // None is `-` outside reach.
-fn put_word(page: &mut [u8], at: usize, algebra: Algebra, word: u16) -> usize
-    ensures { Put page.old at (shown_word algebra word) page.new result }
+fn put_word(page: &mut Page<'_>, algebra: Algebra, word: u16)
+    ensures { Printed page.old (shown_word algebra word) page.new }
 {
     match algebra {
-        Algebra::Reach => put_number(page, at, word as u32),
-        Algebra::Distance => put_unless(page, at, Distance::NONE, word),
-        Algebra::Steepest => put_unless(page, at, Steepest::NONE, word),
+        Algebra::Reach => page.number(u32::from(word)),
+        Algebra::Distance => page.unless(Distance::NONE, word),
+        Algebra::Steepest => page.unless(Steepest::NONE, word),
     }
 }
 
 // The line of an entry and its word.
-pub fn put_entry(page: &mut [u8], at: usize, algebra: Algebra, e: Entry, word: u16) -> usize
-    ensures { Put page.old at (out_line algebra e.job e.row e.column e.size e.tick word) page.new result }
+pub fn put_entry(page: &mut Page<'_>, algebra: Algebra, e: Entry, word: u16)
+    ensures { Printed page.old (out_line algebra e.job e.row e.column e.size e.tick word) page.new }
 {
-    let at = put_text(page, at, b"(out");
-    let at = put_spaced(page, at, e.job);
-    let at = put_spaced(page, at, e.row);
-    let at = put_spaced(page, at, e.column);
-    let at = put_spaced(page, at, e.size);
-    let at = put_spaced(page, at, e.tick);
-    let at = put_text(page, at, b" ");
-    let at = put_word(page, at, algebra, word);
-    put_text(page, at, b")\n")
+    page.text(b"(out");
+    page.spaced(e.job);
+    page.spaced(e.row);
+    page.spaced(e.column);
+    page.spaced(e.size);
+    page.spaced(e.tick);
+    page.text(b" ");
+    put_word(page, algebra, word);
+    page.text(b")\n");
 }

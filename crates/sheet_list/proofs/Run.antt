@@ -1,5 +1,5 @@
 -- A list that the reader accepted is started and run, and never refused.
-use Prim.Native.Nat.{ℕ, ◌+◌, ◌-◌}
+use Prim.Native.Nat.{ℕ}
 use native.Mathlib.Omega.{arith}
 use mathlib.Core.Path.{◌≡◌, sym, ap, ◌∙◌}
 use mathlib.Core.List.{List, ◌++◌}
@@ -8,22 +8,18 @@ use mir.Syntax.{w32}
 use mir.Val.{Fits}
 use Rattle.job_list.specs.Fits.{ListAccepted}
 use Rattle.job_list.specs.Jobs.{jobs_of}
-use Rattle.systolic.specs.Tick.{ticks}
-use Rattle.systolic.specs.Start.{started}
 use Rattle.systolic.specs.Run.{Ran, ran}
 use Rattle.systolic.proofs.Started.{starts}
 use Rattle.refusals.specs.declared.Reason.{Reason}
 use Rattle.refusals.proofs.Reasons.{reason_some}
-use Rattle.starting.specs.declared.StartAnswer.{StartAnswer}
-use Rattle.starting.specs.declared.StartAnswer.TheVariants as start
-use Rattle.array.specs.declared.running.RunAnswer.{RunAnswer}
-use Rattle.array.specs.declared.running.RunAnswer.TheVariants as run
-use Rattle.starting.specs.StartAnswer.{start_number}
+use Rattle.std.specs.Prelude.{Result, Ok, Err}
+use Rattle.refusals.specs.Answer.{answer_number}
 use Rattle.starting.specs.StartLeft.{StartLeft}
-use Rattle.array.specs.RunAnswer.{run_number, run_made, Answered}
+use Rattle.array.specs.RunAnswer.{run_made, Answered}
 use Rattle.text.specs.Joined.{joined}
-use Rattle.text.specs.inner.Put.{Put}
-use Rattle.text.proofs.Put.{◌then◌, put_as}
+use Rattle.text.specs.declared.page.Page.{Page}
+use Rattle.text.specs.inner.Printed.{Printed}
+use Rattle.text.proofs.Printed.{◌then◌, printed_as}
 use Rattle.sheet_form.specs.Lines.{jobs_line, sheet}
 use Rattle.sheet_form.specs.Sheet.{whole_run, sheet_from}
 use Rattle.sheet_form.proofs.WholeRun.{start_leaves, begun_leaves, run_whole}
@@ -31,8 +27,8 @@ use Rattle.sheet_ticks.specs.inner.Leaving.{Printable, tick_lines}
 use Rattle.sheet_list.specs.inner.Memory.{RunMemory}
 
 -- The answer of a run that was accepted, and the results that it left: those of the whole run.
-record RanWhole (answer : RunAnswer) (results : List ℕ) (whole : Ran) : Type 0 where
-  pub number : run_number answer ≡ 0
+record RanWhole (answer : Result ℕ Reason) (results : List ℕ) (whole : Ran) : Type 0 where
+  pub number : answer_number answer ≡ 0
   pub made : run_made answer ≡ whole.made
   pub words : results ≡ whole.results
 
@@ -60,13 +56,13 @@ module _ {algebras : List ℕ} {order : ℕ} {sizes weights state scratch result
     results_fit = kept ∙ ap length zeros ∙ length-replicate {A = ℕ} (length results) 0 ∙ asked.1.results_fit;
   }
 
-  module _ {first : StartAnswer} {state' : List ℕ} (left : StartLeft first algebras order sizes weights state state') where
+  module _ {first : Result (Unit {0}) Reason} {state' : List ℕ} (left : StartLeft first algebras order sizes weights state state') where
     -- No reason has the number 0, which start and run answer.
-    pub start_accepts : {reason : Reason} → first ≡ start.Refused reason → ⊥
+    pub start_accepts : {reason : Reason} → first ≡ Err reason → ⊥
     start_accepts {reason} refused =
-        reason_some reason (sym (ap start_number refused) ∙ left.outcome ∙ starts asked.0 state asked.1.state_fits)
+        reason_some reason (sym (ap answer_number refused) ∙ left.outcome ∙ starts asked.0 state asked.1.state_fits)
 
-    module _ {answer : RunAnswer} {state'' scratch'' results' results'' : List ℕ} (cleared : results' ≡ replicate (length results) 0)
+    module _ {answer : Result ℕ Reason} {state'' scratch'' results' results'' : List ℕ} (cleared : results' ≡ replicate (length results) 0)
         (answered : Answered answer state'' scratch'' results'' (ran state' algebras sizes weights 65535 scratch results')) where
       run_done : RanWhole answer results'' (whole_run algebras order sizes weights)
       run_done =
@@ -79,13 +75,13 @@ module _ {algebras : List ℕ} {order : ℕ} {sizes weights state scratch result
             words = answered.results_after ∙ words;
           }
 
-      pub run_accepts : {reason : Reason} → answer ≡ run.Refused reason → ⊥
-      run_accepts {reason} refused = reason_some reason (sym (ap run_number refused) ∙ run_done.number)
+      pub run_accepts : {reason : Reason} → answer ≡ Err reason → ⊥
+      run_accepts {reason} refused = reason_some reason (sym (ap answer_number refused) ∙ run_done.number)
 
-      pub sheet_printed : {ticks : ℕ} → answer ≡ run.Made ticks → {page page' page'' : List ℕ} {at next : ℕ}
-          → Put page 0 (jobs_line (length sizes) ticks) page' at
-          → Put page' at (joined ticks (tick_lines algebras order sizes results'')) page'' next
-          → Put page 0 (sheet_from (jobs_of algebras order sizes weights) (whole_run algebras order sizes weights)) page'' next
+      pub sheet_printed : {ticks : ℕ} → answer ≡ Ok ticks → {page page' page'' : Page}
+          → Printed page (jobs_line (length sizes) ticks) page'
+          → Printed page' (joined ticks (tick_lines algebras order sizes results'')) page''
+          → Printed page (sheet_from (jobs_of algebras order sizes weights) (whole_run algebras order sizes weights)) page''
       sheet_printed made first rest =
-          put_as (first then rest)
+          printed_as (first then rest)
           (sheet_is algebras order sizes weights (whole_run algebras order sizes weights) (ap run_made (sym made) ∙ run_done.made) run_done.words)

@@ -16,28 +16,29 @@ use Rattle.job_list.specs.Jobs.{offset, algebra_of, place, jobs_of}
 use Rattle.job_list.proofs.Places.{part_within}
 use Rattle.job_list.proofs.Fits.{area_fits, fits_small}
 use Rattle.text.specs.Joined.{joined}
-use Rattle.text.specs.inner.Put.{Put}
-use Rattle.text.proofs.Put.{put_none, put_as}
+use Rattle.text.specs.declared.page.Page.{Page}
+use Rattle.text.specs.inner.Printed.{Printed}
+use Rattle.text.proofs.Printed.{printed_none, printed_as}
 use Rattle.sheet_ticks.specs.declared.tick_lines.Leaving.{Leaving}
 use Rattle.sheet_form.specs.Lines.{Words, out_line}
 use Rattle.sheet_ticks.specs.inner.Leaving.{leaving_line, LeavingFits, Printable, tick_lines}
 use Rattle.sheet_ticks.proofs.TickLines.{lines_early, lines_late, lines_now}
 
 -- A row of a job: where it prints nothing, and its line.
-module _ (a : Algebra) (l : Leaving) (part : List ℕ) (i : ℕ) (page : List ℕ) (at : ℕ) where
-  pub row_above : l.sum < i → Put page at (leaving_line a l part i) page at
+module _ (a : Algebra) (l : Leaving) (part : List ℕ) (i : ℕ) (page : Page) where
+  pub row_above : l.sum < i → Printed page (leaving_line a l part i) page
   unfolding leaving_line
-  row_above h = put_as put_none (rw (lt-leb i l.sum h))
+  row_above h = printed_as (printed_none page) (rw (lt-leb i l.sum h))
 
-  pub row-past : i ≤ l.sum → l.size ≤ l.sum - i → Put page at (leaving_line a l part i) page at
+  pub row-past : i ≤ l.sum → l.size ≤ l.sum - i → Printed page (leaving_line a l part i) page
   unfolding leaving_line
-  row-past h g = put_as put_none (rw (le-leb i l.sum h, le-ltb (l.sum - i) l.size g))
+  row-past h g = printed_as (printed_none page) (rw (le-leb i l.sum h, le-ltb (l.sum - i) l.size g))
 
-  pub row_printed : (page' : List ℕ) (next : ℕ) → i ≤ l.sum → l.sum - i < l.size
-      → Put page at (out_line a l.job i (l.sum - i) l.size l.tick (get_or part (i * l.size + (l.sum - i)) 0)) page' next
-      → Put page at (leaving_line a l part i) page' next
+  pub row_printed : (page' : Page) → i ≤ l.sum → l.sum - i < l.size
+      → Printed page (out_line a l.job i (l.sum - i) l.size l.tick (get_or part (i * l.size + (l.sum - i)) 0)) page'
+      → Printed page (leaving_line a l part i) page'
   unfolding leaving_line
-  row_printed page' next h g p = put_as p (rw (le-leb i l.sum h, lt-ltb (l.sum - i) l.size g))
+  row_printed page' h g p = printed_as p (rw (le-leb i l.sum h, lt-ltb (l.sum - i) l.size g))
 
 module _ {l : Leaving} {part : List ℕ} {i : ℕ} (asked : LeavingFits l part × (i < l.size)) where
   pub row_room : Fits w64 (i * l.size)
@@ -63,9 +64,9 @@ module _ {algebras : List ℕ} {order : ℕ} {sizes results : List ℕ} {t : ℕ
   abbrev word : Words
   word q i k = get_or results (place (jobs_of algebras order sizes []) q i k) 0
 
-  pub tick_early : (page : List ℕ) (at : ℕ) → t + 1 < 4 * order → Put page at (tick_lines algebras order sizes results t) page at
+  pub tick_early : (page : Page) → t + 1 < 4 * order → Printed page (tick_lines algebras order sizes results t) page
   unfolding tick_lines
-  tick_early page at h = put_as put_none (sym (lines_early (jobs_of algebras order sizes []) word list t h))
+  tick_early page h = printed_as (printed_none page) (sym (lines_early (jobs_of algebras order sizes []) word list t h))
 
   -- of a job that the list has
   module _ {job : ℕ} (now : job < length sizes) where
@@ -106,10 +107,10 @@ module _ {algebras : List ℕ} {order : ℕ} {sizes results : List ℕ} {t : ℕ
     tick_is : t ≡ 4 * order * job + 4 * order - 1 + sum
     tick_is = omega (arith, list.ranged.least, div-add-mod since (4 * order))
 
-    pub tick_late : (page : List ℕ) (at : ℕ) → length sizes ≤ job → Put page at (tick_lines algebras order sizes results t) page at
+    pub tick_late : (page : Page) → length sizes ≤ job → Printed page (tick_lines algebras order sizes results t) page
     unfolding tick_lines
-    tick_late page at late =
-        put_as put_none (sym (lines_late (jobs_of algebras order sizes []) word list t job sum sum_below tick_is late))
+    tick_late page late =
+        printed_as (printed_none page) (sym (lines_late (jobs_of algebras order sizes []) word list t job sum sum_below tick_is late))
 
     abbrev size : ℕ
     size = get_or sizes job 0
@@ -138,10 +139,10 @@ module _ {algebras : List ℕ} {order : ℕ} {sizes results : List ℕ} {t : ℕ
           (part_word start (size * size) results (end_within now is_start) (i * size + k) (digits_lt hi hk)
           ∙ ap (λ (at : ℕ). get_or results (at + (i * size + k)) 0) is_start)
 
-      pub tick_printed : {a : Algebra} → a ≡ algebra_of algebras job → (page : List ℕ) (at : ℕ) (page' : List ℕ) (next : ℕ)
-          → Put page at (joined size (leaving_line a leaving part)) page' next → Put page at (tick_lines algebras order sizes results t) page' next
+      pub tick_printed : {a : Algebra} → a ≡ algebra_of algebras job → (page page' : Page)
+          → Printed page (joined size (leaving_line a leaving part)) page' → Printed page (tick_lines algebras order sizes results t) page'
       unfolding tick_lines
-      tick_printed is_algebra page at page' next p =
-          put_as p
+      tick_printed is_algebra page page' p =
+          printed_as p
           (ap (λ (b : Algebra). joined size (leaving_line b leaving part)) is_algebra
           ∙ sym (lines_now (jobs_of algebras order sizes []) word list t job sum sum_below tick_is now part part_is))

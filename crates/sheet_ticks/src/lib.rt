@@ -4,4 +4,4 @@
 
 mod tick_lines;
 
-pub use tick_lines::put_ticks;
+pub use tick_lines::{Finished, put_ticks};

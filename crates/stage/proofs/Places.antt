@@ -1,5 +1,5 @@
 -- Where the jobs' parts lie: within the words of the list, which are few.
-use Prim.Native.Nat.{ℕ, ◌+◌, ◌*◌, ◌/◌, ◌<◌, ◌≤◌}
+use Prim.Native.Nat.{ℕ, ◌+◌, ◌*◌, ◌<◌, ◌≤◌}
 use native.Mathlib.Omega.{arith}
 use mathlib.Core.Path.{◌≡◌, refl, sym, ap, ◌∙◌}
 use mathlib.Core.List.{List}
@@ -16,7 +16,7 @@ use Rattle.job_list.proofs.Fits.{area_fits, offset_most, words_most}
 use Rattle.memory.specs.Walked.{Walked}
 use Rattle.memory.proofs.Walk.{walked_none, walked_one}
 use Rattle.turns.specs.Turn.{live, job_in}
-use Rattle.turns.proofs.Turns.{live_bounds, live_job}
+use Rattle.turns.proofs.Turns.{live_job}
 use Rattle.stage.specs.Found.{Listed, Findable, Found}
 
 -- The job of a pass, from the numbers of the code and what `live` answered.
@@ -27,28 +27,13 @@ module _ {algebras sizes starts : List ℕ} (asked : Findable algebras sizes sta
   e : live (length sizes) pass ≡ true
   e = sym is ∙ found
 
-  pub pass_there : 1 ≤ pass / 4
-  pass_there = omega (arith, (live_bounds (length sizes) pass e).0)
-
-  pub job_there : job_in pass < length sizes
+  job_there : job_in pass < length sizes
   job_there = live_job (length sizes) pass e
-
-  pub job_named : job_in pass < length algebras
-  job_named = omega (arith, job_there, asked.one_each)
-
-  pub job_starts : job_in pass < length starts
-  job_starts = omega (arith, job_there, listed.room)
-
-  pub starts_room : Fits w64 (job_in pass * 8)
-  starts_room = omega (arith, job_there, listed.few)
 
   job_fits : offset sizes (job_in pass) + get_or sizes (job_in pass) 0 * get_or sizes (job_in pass) 0 ≤ 16384
   job_fits = omega (arith, part_within sizes (job_in pass) job_there, listed.words)
 
   module _ {size : ℕ} (f : size ≡ get_or sizes (job_in pass) 0) where
-    pub size_room : Fits w64 (size * size)
-    size_room = omega (arith, job_fits, ap (λ (x : ℕ). x * x) f)
-
     pub end_room : Fits w64 (get_or starts (job_in pass) 0 + size * size)
     end_room = omega (arith, job_fits, ap (λ (x : ℕ). x * x) f, listed.start (job_in pass) job_there)
 
@@ -87,12 +72,6 @@ begins sizes old = record { within = omega arith; next = sym (offset_none sizes)
 
 module _ (sizes old starts : List ℕ) (q at : ℕ) (m : Marked sizes old starts q at) (more : q < length sizes)
     (asked : (length sizes ≤ length old) × Small sizes) where
-  pub start_room : q < length starts
-  start_room = omega (arith, m.found.size, asked.0)
-
-  pub square_room : (size : ℕ) → size ≡ get_or sizes q 0 → Fits w64 (size * size)
-  square_room size e = rw e (omega (arith, area_fits (asked.1.small q more)))
-
   pub sum_room : (size : ℕ) → size ≡ get_or sizes q 0 → Fits w64 (at + size * size)
   sum_room size e = rw e (omega (arith, area_fits (asked.1.small q more), m.next, offset_most asked.1 q m.within, asked.1.few))
 

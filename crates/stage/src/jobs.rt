@@ -3,7 +3,7 @@ ghost use Rattle.std.specs.Prelude.{◌≡◌, ◌≤◌, length};
 ghost use Rattle.job_list.specs.Fits.{Small};
 ghost use Rattle.stage.specs.Found.{Listed, Findable, Found};
 
-use job_list::algebra_of;
+use job_list::{Jobs, algebra_of};
 use semiring::Algebra;
 use turns::live;
 
@@ -12,14 +12,9 @@ use turns::live;
 pub struct Job {
     pub algebra: Algebra,
     pub size: usize,
+    // No `Range`: it is not Copy, and a Job and the Stage that holds it are.
     pub start: usize,
     pub end: usize,
-}
-
-fn wide(x: u16) -> usize
-    ensures { result ≡ x }
-{
-    x as usize
 }
 
 // Where each job's part begins.
@@ -27,30 +22,27 @@ pub fn mark(sizes: &[u16], starts: &mut [usize])
     requires { (length sizes.now ≤ length starts.old) × Small sizes.now }
     ensures { Listed sizes.now starts.new }
 {
-    let mut q = 0;
     let mut at = 0;
-    while q < sizes.len() {
+    for q in 0..sizes.len() {
         starts[q] = at;
-        let size = wide(sizes[q]);
+        let size = usize::from(sizes[q]);
         at += size * size;
-        q += 1;
     }
 }
 
 // The job of a pass; where the pass is of none, a job of no points.
-pub fn job_of(pass: usize, algebras: &[u16], sizes: &[u16], starts: &[usize]) -> Job
-    requires { Findable algebras.now sizes.now starts.now }
-    ensures { Found algebras.now sizes.now pass result }
+pub fn job_of(pass: usize, jobs: &Jobs, starts: &[usize]) -> Job
+    requires { Findable jobs.now.algebras.now jobs.now.sizes.now starts.now }
+    ensures { Found jobs.now.algebras.now jobs.now.sizes.now pass result }
 {
-    if live(sizes.len(), pass) {
+    if live(jobs.sizes.len(), pass) {
         let q = pass / 4 - 1;
-        let algebra = algebra_of(algebras, q);
-        let size = wide(sizes[q]);
+        let size = usize::from(jobs.sizes[q]);
         let start = starts[q];
         return Job {
-            algebra: algebra,
-            size: size,
-            start: start,
+            algebra: algebra_of(jobs.algebras, q),
+            size,
+            start,
             end: start + size * size,
         };
     }

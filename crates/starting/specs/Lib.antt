@@ -1,2 +1,1 @@
-pub mod StartAnswer
 pub mod StartLeft

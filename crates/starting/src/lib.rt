@@ -6,19 +6,11 @@ ghost use Rattle.std.specs.Prelude.{◌≡◌, length};
 ghost use Rattle.systolic.specs.State.{state_words, state_length};
 ghost use Rattle.systolic.specs.Start.{zero_planes};
 ghost use Rattle.starting.specs.StartLeft.{StartLeft};
-ghost use Rattle.starting.specs.StartAnswer.{start_number};
 
-use job_list::{any_above, any_outside, any_unknown, words_before};
+use job_list::{Jobs, any_outside, any_unknown, words_before};
 use memory::clear;
-use refusals::{Reason, number};
+use refusals::Reason;
 use state_header::{Header, store_header};
-
-// What a call of start answers: that the state is laid out, or why it turned back.
-#[derive(Clone, Copy)]
-pub enum StartAnswer {
-    Done,
-    Refused(Reason),
-}
 
 // A state with planes 0.
 fn lay_out(header: Header, state: &mut [u16])
@@ -37,38 +29,37 @@ pub fn start(
     sizes: &[u16],
     weights: &[u16],
     state: &mut [u16],
-) -> StartAnswer
+) -> Result<(), Reason>
     ensures { StartLeft result algebras.now order sizes.now weights.now state.old state.new }
 {
     if any_unknown(algebras) {
-        return StartAnswer::Refused(Reason::AlgebraUnknown);
+        return Err(Reason::AlgebraUnknown);
     }
-    if order < 1 {
-        return StartAnswer::Refused(Reason::OrderOutside);
+    if !(1..=32).contains(&order) {
+        return Err(Reason::OrderOutside);
     }
-    if 32 < order {
-        return StartAnswer::Refused(Reason::OrderOutside);
-    }
-    if sizes.len() < 1 {
-        return StartAnswer::Refused(Reason::JobsOutside);
-    }
-    if 16 < sizes.len() {
-        return StartAnswer::Refused(Reason::JobsOutside);
+    if !(1..=16).contains(&sizes.len()) {
+        return Err(Reason::JobsOutside);
     }
     if algebras.len() != sizes.len() {
-        return StartAnswer::Refused(Reason::JobsOutside);
+        return Err(Reason::JobsOutside);
     }
     if any_outside(order, sizes) {
-        return StartAnswer::Refused(Reason::JobSizeOutside);
+        return Err(Reason::JobSizeOutside);
     }
     if weights.len() != words_before(sizes, sizes.len()) {
-        return StartAnswer::Refused(Reason::WeightsLength);
+        return Err(Reason::WeightsLength);
     }
     if state.len() != 4 + 3 * (order * order) {
-        return StartAnswer::Refused(Reason::StateLength);
+        return Err(Reason::StateLength);
     }
-    if any_above(algebras, sizes, weights) {
-        return StartAnswer::Refused(Reason::WordAbove);
+    let jobs = Jobs {
+        algebras,
+        sizes,
+        weights,
+    };
+    if jobs.any_above() {
+        return Err(Reason::WordAbove);
     }
     lay_out(
         Header {
@@ -78,15 +69,5 @@ pub fn start(
         },
         state,
     );
-    StartAnswer::Done
-}
-
-// The number of document 01 for an answer of start, 0 where it was accepted.
-pub fn start_number(answer: StartAnswer) -> u32
-    ensures { result ≡ start_number answer }
-{
-    match answer {
-        StartAnswer::Done => 0,
-        StartAnswer::Refused(reason) => number(reason),
-    }
+    Ok(())
 }

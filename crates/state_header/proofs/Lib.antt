@@ -1,2 +1,1 @@
-pub mod HeaderNeeds
 pub mod Rooms

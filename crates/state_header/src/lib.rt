@@ -7,6 +7,8 @@ ghost use Rattle.job_list.specs.Fits.{Ranged};
 ghost use Rattle.systolic.specs.State.{total};
 ghost use Rattle.state_header.specs.inner.Header.{headed, Told};
 
+use refusals::Reason;
+
 #[derive(Clone, Copy)]
 pub struct Header {
     pub order: u16,
@@ -39,9 +41,8 @@ impl Header {
         ensures { result ≡ record { order = self.order; count = self.count; tick = self.tick + made } }
     {
         Header {
-            order: self.order,
-            count: self.count,
             tick: self.tick + made,
+            ..self
         }
     }
 }
@@ -57,46 +58,33 @@ pub fn store_header(header: Header, state: &mut [u16])
     state[3] = header.tick;
 }
 
-// What the words of a state give: its header, or that it is no state.
-#[derive(Clone, Copy)]
-pub enum HeaderRead {
-    Fit(Header),
-    Unfit,
-}
-
-// Test 10.
-pub fn read_header(state: &[u16]) -> HeaderRead
+// A state's header, or that it is no state: test 10.
+pub fn read_header(state: &[u16]) -> Result<Header, Reason>
     ensures { Told result state.now }
 {
     if state.len() < 4 {
-        return HeaderRead::Unfit;
+        return Err(Reason::StateUnfit);
     }
     let header = Header {
         order: state[0],
         count: state[2],
         tick: state[3],
     };
-    if header.order < 1 {
-        return HeaderRead::Unfit;
-    }
-    if 32 < header.order {
-        return HeaderRead::Unfit;
+    if !(1..=32).contains(&header.order) {
+        return Err(Reason::StateUnfit);
     }
     if state[1] != 0 {
-        return HeaderRead::Unfit;
+        return Err(Reason::StateUnfit);
     }
-    if header.count < 1 {
-        return HeaderRead::Unfit;
+    if !(1..=16).contains(&header.count) {
+        return Err(Reason::StateUnfit);
     }
-    if 16 < header.count {
-        return HeaderRead::Unfit;
-    }
-    let order = header.order as usize;
+    let order = usize::from(header.order);
     if state.len() != 4 + 3 * (order * order) {
-        return HeaderRead::Unfit;
+        return Err(Reason::StateUnfit);
     }
     if header.total() < header.tick {
-        return HeaderRead::Unfit;
+        return Err(Reason::StateUnfit);
     }
-    HeaderRead::Fit(header)
+    Ok(header)
 }

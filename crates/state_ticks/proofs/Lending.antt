@@ -5,8 +5,6 @@ use mathlib.Core.Path.{◌≡◌, refl, sym, ap, ap₂, ◌∙◌}
 use mathlib.Core.List.{List, [], ◌∷◌, ◌++◌, append-nil}
 use lib.ListN.{length, take, drop, take-append-drop, length-drop}
 use lib.Seq.{drop-drop, length-take-le, take_all}
-use mir.Syntax.{w64}
-use mir.Val.{Fits}
 use Rattle.memory.specs.Lists.{replaced}
 use Rattle.memory.proofs.Part.{part_length, replaced_seam}
 use Rattle.job_list.specs.Jobs.{jobs_of}
@@ -18,7 +16,6 @@ use Rattle.ticks.specs.Ready.{array_of, Ready}
 use Rattle.state_header.specs.declared.Header.{Header}
 use Rattle.state_header.specs.inner.Header.{headed}
 use Rattle.state_ticks.specs.inner.Runnable.{Runnable, RunLeft, made_array}
-use Rattle.state_header.proofs.Rooms.{total_most}
 
 -- a header over four words and the rest
 headed_front : (h : Header) (four rest : List ℕ) → length four ≡ 4
@@ -74,18 +71,8 @@ module _ (state : List ℕ) (long : 4 ≤ length state) where
 
 module _ {h : Header} {made : ℕ} {algebras sizes weights scratch state results : List ℕ}
     (fit : Runnable h made algebras sizes weights scratch state results) where
-  pub tick_fits : h.tick + made ≤ 2110
-  tick_fits = omega (arith, total_most h.order (length sizes) fit.list.ranged, fit.ticks_left)
-
-  pub tick_room : Fits w64 (h.tick + made)
-  tick_room = omega (arith, tick_fits)
-
   pub state_long : 4 ≤ length state
   state_long = omega (arith, fit.state_fits)
-
-  -- the header's words, once the planes are others
-  pub head_long : (state' : List ℕ) → length state' ≡ length state → 4 ≤ length state'
-  head_long state' same = omega (arith, state_long)
 
   order_is : order_of state ≡ h.order
   order_is = sym (ap (λ (k : Header). k.order) fit.header)

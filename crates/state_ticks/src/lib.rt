@@ -4,36 +4,26 @@
 
 ghost use Rattle.state_ticks.specs.inner.Runnable.{Runnable, RunLeft};
 
+use job_list::Jobs;
 use state_header::{Header, store_header};
-use ticks::{Ticks, advance};
+use ticks::advance;
 
 // It makes `made` ticks.
 pub fn proceed(
     header: Header,
     made: u16,
-    algebras: &[u16],
-    sizes: &[u16],
-    weights: &[u16],
+    jobs: &Jobs,
     scratch: &mut [u16],
     state: &mut [u16],
     results: &mut [u16],
 )
-    requires { Runnable header made algebras.now sizes.now weights.now scratch.old state.old results.old }
-    ensures { RunLeft made algebras.now sizes.now weights.now state.old
+    requires { Runnable header made jobs.now.algebras.now jobs.now.sizes.now jobs.now.weights.now scratch.old state.old results.old }
+    ensures { RunLeft made jobs.now.algebras.now jobs.now.sizes.now jobs.now.weights.now state.old
         results.old state.new results.new }
 {
-    let n = header.order as usize;
-    let from = header.tick as usize;
-    let to = from + made as usize;
-    advance(
-        n,
-        Ticks { from: from, to: to },
-        algebras,
-        sizes,
-        weights,
-        scratch,
-        &mut state[4..],
-        results,
-    );
+    let n = usize::from(header.order);
+    let from = usize::from(header.tick);
+    let to = from + usize::from(made);
+    advance(n, from..to, jobs, scratch, &mut state[4..], results);
     store_header(header.next_tick(made), state);
 }

@@ -1,7 +1,7 @@
 -- The passes over rows of eight words: each row as the walk of `relax` leaves it, and the table through point after point.
 use Prim.Native.Nat.{ℕ, ◌+◌, ◌*◌, ◌-◌, ◌<◌, ◌≤◌, zero-le}
 use native.Mathlib.Omega.{arith}
-use mathlib.Core.Path.{◌≡◌, sym, ◌∙◌}
+use mathlib.Core.Path.{◌≡◌, ◌∙◌}
 use mathlib.Core.List.{List}
 use lib.Arith.{digits_div, digits_mod}
 use lib.ListN.{length, get_or, take, drop}
@@ -13,7 +13,7 @@ use Rattle.closure.specs.Table.{Table, entries}
 use Rattle.closure.specs.Elimination.{passes}
 use Rattle.relax.specs.Relax.{relaxed}
 use Rattle.elimination.specs.inner.Rows.{Square}
-use Rattle.elimination.proofs.Rows.{RowsWalked, begins as none, goes_on}
+use Rattle.elimination.proofs.Rows.{RowsWalked, goes_on}
 use Rattle.elimination.proofs.Points.{passes_none, passes_one}
 use Rattle.stride_eight.specs.Strided.{Room}
 use Rattle.stride_eight.specs.inner.Passes.{Holds, RowsRelaxed, PassedAll}
@@ -26,13 +26,7 @@ square room = record { most = omega arith; words = room.words }
 pub record Relaxing (a : Algebra) (k : ℕ) (via old : List ℕ) (i : ℕ) (l : List ℕ) : Type 0 where
   pub rows : RowsWalked 8 (relaxed a k via) old i l
 
-pub no_row : {a : Algebra} {k : ℕ} {via old : List ℕ} → Relaxing a k via old 0 old
-no_row = record { rows = none }
-
 module _ {a : Algebra} {n k : ℕ} {via old : List ℕ} {i : ℕ} {l : List ℕ} (c : Relaxing a k via old i l) (room : Room n old) where
-  pub walked_words : length l ≡ 64
-  walked_words = c.rows.walked.size ∙ room.words
-
   pub row_relaxed : {new : List ℕ} → i < n
       → (let part : List ℕ = take (i * 8 + 8 - i * 8) (drop (i * 8) l) in Walked (relaxed a k via part) part (length part) new)
       → Relaxing a k via old (i + 1) (replaced (i * 8) (i * 8 + 8 - i * 8) new l)
@@ -58,9 +52,6 @@ pub begins : {a : Algebra} {n : ℕ} {old via : List ℕ} → Room n old → len
 begins {a} room via = record { count = zero-le; via_room = via; room = room; holds = λ t holds. rw (passes_none a t) holds }
 
 module _ {a : Algebra} {n k : ℕ} {old via l : List ℕ} (c : Closing a n old via k l) where
-  pub room_via : 8 ≡ length via
-  room_via = sym c.via_room
-
   -- row k copied, then every row through k
   pub goes_through : {via' new : List ℕ} → k < n
       → (let part : List ℕ = take (k * 8 + 8 - k * 8) (drop (k * 8) l) in Walked (λ p word. get_or part p 0) via (length part) via')

@@ -15,7 +15,7 @@ use Rattle.memory.specs.Lists.{replaced}
 use Rattle.memory.specs.Walked.{Walked}
 use Rattle.memory.proofs.Geometry.{row_fits}
 use Rattle.memory.proofs.Part.{part_length, replaced_length, replaced_before, replaced_inside, replaced_after}
-use Rattle.memory.proofs.Walk.{walked_none, walked_to, spanned_as}
+use Rattle.memory.proofs.Walk.{walked_to, spanned_as}
 use Rattle.semiring.specs.Algebra.{own_of}
 use Rattle.semiring.specs.declared.Algebra.{Algebra}
 use Rattle.table_layout.proofs.Diagonal.{owned}
@@ -23,15 +23,14 @@ use Rattle.byte_tables.specs.Bytes.{decoded}
 use Rattle.byte_tables.proofs.Parts.{part_size, part_decoded}
 use Rattle.stride_eight.specs.Strided.{strided, LaidRows, ToLayOutRows}
 use Rattle.stride_eight.specs.claims.Rows.{EveryRow}
-use Rattle.stride_eight.proofs.Geometry.{in_table}
+
+in_table : {n rows : ℕ} {weights table : List ℕ} (i : ℕ) → ToLayOutRows n rows weights table → i < rows → i < n
+in_table i asked h = omega (arith, asked.steps)
 
 -- Rows 0 to i - 1 were laid out over `old`, and the memory is l.
 pub record Laying (own n rows : ℕ) (weights old : List ℕ) (i : ℕ) (l : List ℕ) : Type 0 where
   pub count : i ≤ rows
   pub walked : Walked (strided n (owned own n (decoded weights))) old (i * 8) l
-
-pub begins : {own n rows : ℕ} {weights old : List ℕ} → Laying own n rows weights old 0 old
-begins = record { count = zero-le; walked = walked_to walked_none (omega arith) }
 
 module _ {own n rows : ℕ} {weights old : List ℕ} {i : ℕ} {l : List ℕ} (c : Laying own n rows weights old i l) (asked : ToLayOutRows n rows weights old) where
   pub words : length l ≡ 64
@@ -44,13 +43,6 @@ module _ {own n rows : ℕ} {weights old : List ℕ} {i : ℕ} {l : List ℕ} (c
       let bytes = part_length (2 * (i * n)) (2 * (i * n) + 2 * n - 2 * (i * n)) weights (omega (arith, row_fits below, asked.weights_fit)) in
       let row = part_length (i * 8) (i * 8 + n - i * 8) l (omega (arith, words, asked.most)) in
       omega (arith, bytes, row)
-
-  pub place_inside : (new : List ℕ) → i < rows → length new ≡ length (take (i * 8 + n - i * 8) (drop (i * 8) l))
-      → i * 8 + i < length (replaced (i * 8) (i * 8 + n - i * 8) new l)
-  place_inside new h e =
-      let fits : i * 8 + (i * 8 + n - i * 8) ≤ length l = omega (arith, words, asked.most, asked.steps) in
-      let same = replaced_length (i * 8) (i * 8 + n - i * 8) l fits new (e ∙ part_length (i * 8) (i * 8 + n - i * 8) l fits) in
-      omega (arith, words, same, asked.most, asked.steps)
 
   pub goes_on : {new : List ℕ} → i < rows → new ≡ decoded (take (2 * (i * n) + 2 * n - 2 * (i * n)) (drop (2 * (i * n)) weights))
       → Laying own n rows weights old (i + 1) (set (replaced (i * 8) (i * 8 + n - i * 8) new l) (i * 8 + i) own)

@@ -1,5 +1,5 @@
 -- The words of the table written as bytes, row by row.
-use Prim.Native.Nat.{ℕ, ◌+◌, ◌*◌, ◌-◌, ◌/◌, ◌%◌, ◌<◌, ◌≤◌, zero-le}
+use Prim.Native.Nat.{ℕ, ◌+◌, ◌*◌, ◌-◌, ◌/◌, ◌%◌, ◌<◌, ◌≤◌}
 use native.Mathlib.Nat.{add-sub_cancel_left}
 use native.Mathlib.Omega.{arith}
 use mathlib.Core.Path.{◌≡◌, ap, ◌∙◌}
@@ -9,7 +9,7 @@ use Rattle.memory.specs.Lists.{replaced}
 use Rattle.memory.specs.Walked.{Walked}
 use Rattle.memory.proofs.Geometry.{row_fits}
 use Rattle.memory.proofs.Part.{part_length, part_word}
-use Rattle.memory.proofs.Walk.{walked_none, walked_part, walked_to}
+use Rattle.memory.proofs.Walk.{walked_part, walked_to}
 use Rattle.closure.specs.Table.{entries, row_by_row}
 use Rattle.closure.proofs.Holds.{row_by_row_holds}
 use Rattle.byte_tables.specs.Bytes.{encoded}
@@ -20,9 +20,6 @@ use Rattle.stride_eight.specs.Strided.{ToEncode}
 pub record Writing (n : ℕ) (table old : List ℕ) (i : ℕ) (l : List ℕ) : Type 0 where
   pub count : i ≤ n
   pub walked : Walked (λ q byte. byte_at (row_by_row n (entries 8 table)) q) old (2 * (i * n)) l
-
-pub begins : {n : ℕ} {table old : List ℕ} → Writing n table old 0 old
-begins {n} = record { count = zero-le; walked = walked_to walked_none (omega arith) }
 
 module _ {n : ℕ} {table old : List ℕ} {i : ℕ} {l : List ℕ} (c : Writing n table old i l) (asked : ToEncode n table old) where
   pub size : length l ≡ 2 * (n * n)

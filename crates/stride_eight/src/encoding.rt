@@ -8,13 +8,11 @@ pub fn encode(n: usize, table: &[u16], res: &mut [u8])
     requires { ToEncode n table.now res.old }
     ensures { res.new ≡ encoded (row_by_row n (entries 8 table.now)) }
 {
-    let mut i = 0;
-    while i < n {
+    for i in 0..n {
         let at = i * 8;
         let end = at + n;
         let from = 2 * (i * n);
         let to = from + 2 * n;
         byte_tables::encode(&table[at..end], &mut res[from..to]);
-        i += 1;
     }
 }

@@ -11,14 +11,12 @@ pub fn lay_out(a: Algebra, n: usize, rows: usize, weights: &[u8], table: &mut [u
     ensures { LaidRows a n rows (decoded weights.now) table.old table.new }
 {
     let word = own(a);
-    let mut i = 0;
-    while i < rows {
+    for i in 0..rows {
         let from = 2 * (i * n);
         let to = from + 2 * n;
         let at = i * 8;
         let end = at + n;
         decode(&weights[from..to], &mut table[at..end]);
         table[at + i] = word;
-        i += 1;
     }
 }

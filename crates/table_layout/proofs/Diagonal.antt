@@ -9,12 +9,9 @@ use mathlib.Core.Bool.{cond}
 use lib.Arith.{digits_div, digits_mod}
 use lib.Dec.{eqb}
 use lib.ListN.{length, get_or, set, take, drop, length-set}
-use mir.Syntax.{w64}
-use mir.Val.{Fits}
 use borrow.Author.Tests.{eq-eqb, ne_eqb}
 use Rattle.memory.specs.Lists.{replaced}
 use Rattle.memory.specs.Walked.{Walked}
-use Rattle.memory.proofs.Geometry.{square_fits}
 use Rattle.memory.proofs.ListOf.{length_list_of, get_d_list_of}
 use Rattle.memory.proofs.Part.{part_length, part_word}
 use Rattle.memory.proofs.Walk.{walked_none, walked_one, walked_part, walked_to, spanned_as, walked_same, walked_front}
@@ -60,30 +57,9 @@ pub begins : {own n m : ℕ} {weights old : List ℕ} → Laying own n m weights
 begins {n = n} = record { row = 0; place = omega arith; walked = walked_to walked_none (omega arith) }
 
 module _ {own n m : ℕ} {weights old : List ℕ} {at : ℕ} {l : List ℕ} (c : Laying own n m weights old at l) (asked : ToLayOut n m weights old) where
-  -- what the code asks before it lays out the next stretch
+  -- the next stretch
   module _ (h : at < m) where
-    room : (at < length l) × (length l ≤ 16384)
-    room = (omega (arith, asked.table_fit, asked.steps, c.walked.size), omega (arith, square_fits asked.most, asked.table_fit, c.walked.size))
-
-    pub place_bytes : Fits w64 (at * 2)
-    place_bytes = omega (arith, room)
-
-    pub place_inside : at < length l
-    place_inside = room.0
-
-    pub from_room : Fits w64 (at + 1)
-    from_room = omega (arith, room)
-
-    pub from_bytes : Fits w64 ((at + 1) * 2)
-    from_bytes = omega (arith, room)
-
-    pub next_room : Fits w64 (at + 1 + n)
-    next_room = omega (arith, room, asked.most)
-
     module _ {to : ℕ} (e : to ≡ min (at + 1 + n) m) where
-      pub to_from : at + 1 ≤ to
-      to_from = omega arith
-
       pub weights_inside : to ≤ length weights
       weights_inside = omega (arith, asked.weights_fit, asked.steps)
 
@@ -92,7 +68,7 @@ module _ {own n m : ℕ} {weights old : List ℕ} {at : ℕ} {l : List ℕ} (c :
 
       -- the own word, then the words of the weights up to `to`, given back as `new`
       pub goes_on : (new : List ℕ) → length new ≡ to - (at + 1) → ((j : ℕ) → j < to - (at + 1) → get_or new j 0 ≡ get_or weights (at + 1 + j) 0)
-          → Laying own n m weights old (at + 1 + n) (replaced (at + 1) (to - (at + 1)) new (set l at own))
+          → Laying own n m weights old (at + (n + 1)) (replaced (at + 1) (to - (at + 1)) new (set l at own))
       goes_on new size word =
           let inside : at < length old = omega (arith, asked.table_fit, asked.steps) in
           let d : c.row < n = in_rows c.row n (omega (arith, c.place, asked.table_fit)) (dec_lt c.row n) in
@@ -111,7 +87,7 @@ module _ {own n m : ℕ} {weights old : List ℕ} {at : ℕ} {l : List ℕ} (c :
       pub copied : {new : List ℕ}
           → (let from : List ℕ = take (to - (at + 1)) (drop (at + 1) weights) in
           Walked (λ p word. get_or from p 0) (take (to - (at + 1)) (drop (at + 1) (set l at own))) (length from) new)
-          → Laying own n m weights old (at + 1 + n) (replaced (at + 1) (to - (at + 1)) new (set l at own))
+          → Laying own n m weights old (at + (n + 1)) (replaced (at + 1) (to - (at + 1)) new (set l at own))
       copied {new} c' =
           let w : ℕ = to - (at + 1) in
           let fits : at + 1 + w ≤ length weights = omega (arith, weights_inside) in
@@ -130,5 +106,3 @@ module _ {own n m : ℕ} {weights old : List ℕ} {at : ℕ} {l : List ℕ} (c :
       ap (λ (x : ℕ). laid x n weights p 0) e
       ∙ sym (get_d_list_of (n * n) (λ q. with_own a (entries n weights) (q / n) (q % n)) p (omega (arith, asked.steps)))))
       (walked_front table old m (omega (arith, asked.steps)) (omega (arith, asked.steps, asked.table_fit)))
-
-pub ruleset stretch = (place_bytes, place_inside, from_room, from_bytes, next_room, to_from, weights_inside, table_inside)

@@ -5,7 +5,7 @@
 ghost use Rattle.std.specs.Prelude.{◌≡◌};
 ghost use Rattle.table_layout.specs.LaidOut.{laid_out, ToLayOut};
 
-use memory::{copy, smaller};
+use memory::copy;
 use semiring::{Algebra, own};
 
 // The first m steps of the walk: a step writes one word of the table, and no later step writes it. From one place on the diagonal to
@@ -15,13 +15,10 @@ pub fn lay_out(a: Algebra, n: usize, m: usize, weights: &[u16], table: &mut [u16
     ensures { table.new ≡ laid_out a n m weights.now table.old }
 {
     let word = own(a);
-    let mut at = 0;
-    while at < m {
+    for at in (0..m).step_by(n + 1) {
         table[at] = word;
         let from = at + 1;
-        let next = from + n;
-        let to = smaller(next, m);
+        let to = (from + n).min(m);
         copy(&weights[from..to], &mut table[from..to]);
-        at = next;
     }
 }

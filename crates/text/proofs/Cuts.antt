@@ -4,7 +4,7 @@ use Prim.Native.Char.{code}
 use native.Mathlib.Numerals.{add-one}
 use native.Mathlib.Omega.{arith}
 use native.Mathlib.Decide.{dec_lt, ℕ_discrete}
-use mathlib.Core.Path.{◌≡◌, refl, sym, ap, ◌∙◌}
+use mathlib.Core.Path.{◌≡◌, refl, sym, ap, subst, ◌∙◌}
 use mathlib.Core.List.{List, [], ◌∷◌, ◌++◌, map}
 use lib.ListN.{length, get_or, take, drop, take-append-drop, length-take, length-drop, drop_of_length-le}
 use mathlib.Core.Bool.{Bool, true, false}
@@ -12,7 +12,8 @@ use lib.Dec.{eqb}
 use lib.Seq.{drop-cons, drop-drop, get_or-take, get_or-drop}
 use borrow.Author.Tests.{eq-eqb, ne_eqb}
 use Rattle.text.specs.Pieces.{Piece, pieced, cut, bytes_of, lines, begun, nonempty, placed}
-use Rattle.text.specs.inner.Scan.{between, parts_from, Until, Unspaced, Found}
+use Rattle.text.specs.inner.Scan.{between, parts_from, Until, Unspaced, Found, NextPart}
+use Rattle.std.proofs.Common.{Some, None}
 
 abbrev piece_at : ℕ → List ℕ → Piece
 piece_at at bytes = record { at = at; bytes = bytes }
@@ -118,6 +119,15 @@ module _ {from start end : ℕ} {line : List ℕ} (u : Unspaced from line start)
     none_start = λ h. omega (arith, u.least, u.most, at-end h (dec_lt start (length line)));
     none_end = λ h. omega (arith, u.least, u.most, t.least, at-end h (dec_lt start (length line)));
   }
+
+  pub part_here : start < end → NextPart from line (Some (record { start = start; end = end }))
+  part_here h = (found_here, h)
+
+  pub no_part : end ≤ start → NextPart from line None
+  no_part h =
+      let f = found_here in
+      let e : end ≡ start = f.none_end h ∙ sym (f.none_start h) in
+      subst (λ (m : ℕ). Found from line m m) (f.none_start h) (subst (λ (m : ℕ). Found from line start m) e f)
 
 module _ {from start end : ℕ} {line : List ℕ} (f : Found from line start end) where
   pub parts_some : start < end → parts_from from line ≡ between start end line ∷ parts_from end line

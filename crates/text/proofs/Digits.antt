@@ -1,46 +1,43 @@
 -- Numerals that are read: digits, the number that they stand for, and the two loops over them.
-use Prim.Native.Nat.{ℕ, ◌+◌, ◌*◌, ◌-◌, ◌<◌, ◌≤◌}
+use Prim.Native.Nat.{ℕ, zero, suc, ◌+◌, ◌*◌, ◌-◌, ◌<◌, ◌≤◌}
 use native.Mathlib.Nat.{le_trans, le_refl, lt_of_lt_of_le}
 use native.Mathlib.Numerals.{add-one}
 use native.Mathlib.Omega.{arith}
 use mathlib.Core.Path.{◌≡◌, refl, sym, ap, ◌∙◌}
+use mathlib.Core.Logic.{inl, inr}
 use mathlib.Core.List.{List, [], ◌∷◌}
-use mathlib.Core.Bool.{Bool, true, false, true≢false, cond, ◌||◌}
+use mathlib.Core.Bool.{Bool, true, false, true≢false, cond, not, ◌||◌, and-false}
 use lib.ListN.{length, get_or, drop, drop_of_length-le}
 use lib.Seq.{drop-cons}
 use lib.Dec.{ltb}
 use borrow.Author.Tests.{lt-ltb, le-ltb, ltb-false}
-use Rattle.text.specs.declared.numeral.Numeral.TheVariants.{Number, Over}
+use Rattle.std.proofs.Common.{Some, None}
+use Rattle.std.specs.Bool.{MatchBool}
+use Rattle.std.specs.Int.{IsInRange, IsOutOfRange}
+use Rattle.std.specs.List.{AllWithin, HoldsAt}
 use Rattle.text.specs.Numeral.{digits, decimal, numeral_of}
 
-digits_at : (p : List ℕ) (i : ℕ) (b : Bool) → i < length p → (ltb (get_or p i 0) 48 || ltb 57 (get_or p i 0)) ≡ b
-    → digits (drop i p) ≡ cond b false (digits (drop (i + 1) p))
+-- digits alone, and a byte that is none
+pub digits_all : (p : List ℕ) → ((i : ℕ) → i < length p → IsInRange 48 57 (get_or p i 0)) → digits p ≡ true
 unfolding digits
-digits_at p i true h e = rw (drop-cons p i 0 h, e)
-digits_at p i false h e = rw (drop-cons p i 0 h, e, add-one i)
+digits_all [] h = refl
+digits_all (b ∷ p) h = rw (le-ltb b 48 (h 0 (omega arith)).0, le-ltb 57 b (h 0 (omega arith)).1) (digits_all p (λ i k. h (suc i) (omega arith)))
 
--- `all_digits`: digits so far
-pub record Digits (p : List ℕ) (at : ℕ) : Type 0 where
-  pub within : at ≤ length p
-  pub rest : digits p ≡ digits (drop at p)
+other_byte : (b : ℕ) → IsOutOfRange 48 57 b → (ltb b 48 || ltb 57 b) ≡ true
+other_byte b (inl low) = rw (lt-ltb b 48 low)
+other_byte b (inr high) = rw (le-ltb b 48 (omega arith), lt-ltb 57 b high)
 
-module _ {p : List ℕ} where
-  pub digits_none : Digits p 0
-  digits_none = record { within = omega arith; rest = refl }
+pub digits_not : (p : List ℕ) (i : ℕ) → i < length p → IsOutOfRange 48 57 (get_or p i 0) → digits p ≡ false
+unfolding digits
+digits_not [] i h o = absurd (omega arith)
+digits_not (b ∷ p) zero h o = rw (other_byte b o)
+digits_not (b ∷ p) (suc i) h o = rw (digits_not p i (omega arith) o) (and-false (not (ltb b 48 || ltb 57 b)))
 
-  pub digits_one : {at : ℕ} → Digits p at → at < length p → 48 ≤ get_or p at 0 → get_or p at 0 ≤ 57 → Digits p (at + 1)
-  digits_one {at} d h low high =
-      record { within = omega arith; rest = d.rest ∙ digits_at p at false h (rw (le-ltb (get_or p at 0) 48 low, le-ltb 57 (get_or p at 0) high)) }
-
-  pub digit_below : {at : ℕ} → Digits p at → at < length p → get_or p at 0 < 48 → false ≡ digits p
-  digit_below {at} d h low = sym (d.rest ∙ digits_at p at true h (rw (lt-ltb (get_or p at 0) 48 low)))
-
-  pub digit_above : {at : ℕ} → Digits p at → at < length p → 48 ≤ get_or p at 0 → 57 < get_or p at 0 → false ≡ digits p
-  digit_above {at} d h low high = sym (d.rest ∙ digits_at p at true h (rw (le-ltb (get_or p at 0) 48 low, lt-ltb 57 (get_or p at 0) high)))
-
-  pub digits_all : {at : ℕ} → Digits p at → length p ≤ at → true ≡ digits p
-  unfolding digits
-  digits_all {at} d h = sym (d.rest ∙ rw (drop_of_length-le p h))
+-- `all_digits`: what its walk found
+pub digits_told : (p : List ℕ) (r : Bool) → MatchBool r (AllWithin (IsInRange 48 57) p 0 (length p)) ((k : ℕ) × (k < length p) × HoldsAt (IsOutOfRange 48 57) p k)
+    → r ≡ digits p
+digits_told p true all = sym (digits_all p (λ i h. all i 0 (omega arith) h))
+digits_told p false (k, h, other) = sym (digits_not p k h (other 0))
 
 decimal_least : (v : ℕ) (p : List ℕ) → v ≤ decimal v p
 unfolding decimal
@@ -51,10 +48,10 @@ decimal_step : (v : ℕ) (p : List ℕ) (i : ℕ) → i < length p → decimal v
 unfolding decimal
 decimal_step v p i h = rw (drop-cons p i 0 h, add-one i)
 
-pub numeral_over : (long most : ℕ) (p : List ℕ) → most < decimal 0 p → Over ≡ numeral_of long most p
+pub numeral_over : (long most : ℕ) (p : List ℕ) → most < decimal 0 p → None ≡ numeral_of long most p
 numeral_over long most p h = rw (lt-ltb most (decimal 0 p) h) (over (ltb long (length p)))
   where
-    over : (b : Bool) → Over ≡ cond (b || true) Over (Number (decimal 0 p))
+    over : (b : Bool) → None ≡ cond (b || true) None (Some (decimal 0 p))
     over true = refl
     over false = refl
 
@@ -78,27 +75,27 @@ module _ {long most : ℕ} {p : List ℕ} where
   valued_one v h e k = record { within = omega arith; fits = v.fits; below = k; rest = more v h e }
 
   pub numeral_above : {value at d : ℕ} → Valued long most p value at → at < length p → d ≡ get_or p at 0 - 48 → most < 10 * value + d
-      → Over ≡ numeral_of long most p
+      → None ≡ numeral_of long most p
   numeral_above {value} {at} {d} v h e k =
       numeral_over long most p (rw (more v h e) (lt_of_lt_of_le k (decimal_least (10 * value + d) (drop (at + 1) p))))
 
-  pub numeral_whole : {value at : ℕ} → Valued long most p value at → length p ≤ at → Number value ≡ numeral_of long most p
+  pub numeral_whole : {value at : ℕ} → Valued long most p value at → length p ≤ at → Some value ≡ numeral_of long most p
   unfolding decimal
   numeral_whole {value} {at} v h =
       let e : decimal 0 p ≡ value = v.rest ∙ rw (drop_of_length-le p h) in
       rw (le-ltb long (length p) v.fits, e, le-ltb most value v.below)
 
-pub numeral_long : (long most : ℕ) (p : List ℕ) → long < length p → Over ≡ numeral_of long most p
+pub numeral_long : (long most : ℕ) (p : List ℕ) → long < length p → None ≡ numeral_of long most p
 numeral_long long most p h = rw (lt-ltb long (length p) h)
 
 second : (x y : Bool) → (x || y) ≡ false → y ≡ false
 second true y f = absurd (true≢false f)
 second false y f = f
 
-pub numeral_most : (long most : ℕ) (p : List ℕ) (n : ℕ) → numeral_of long most p ≡ Number n → n ≤ most
+pub numeral_most : (long most : ℕ) (p : List ℕ) (n : ℕ) → numeral_of long most p ≡ Some n → n ≤ most
 numeral_most long most p n e = at (ltb long (length p) || ltb most (decimal 0 p)) refl e
   where
-    at : (b : Bool) → (ltb long (length p) || ltb most (decimal 0 p)) ≡ b → cond b Over (Number (decimal 0 p)) ≡ Number n → n ≤ most
+    at : (b : Bool) → (ltb long (length p) || ltb most (decimal 0 p)) ≡ b → cond b None (Some (decimal 0 p)) ≡ Some n → n ≤ most
     at true f g = let z : ◌≡◌ {A = ℕ} 0 1 = cc in absurd (omega arith)
     at false f g =
         let h : decimal 0 p ≡ n = cc in

@@ -1,3 +1,4 @@
+pub mod Alike
 pub mod Cuts
 pub mod Digits
 pub mod Fronts
@@ -5,8 +6,7 @@ pub mod Joined
 pub mod Lengths
 pub mod Limits
 pub mod Numerals
-pub mod Put
-pub mod Rounds
+pub mod Printed
 pub mod Runs
 pub mod Spelling
 pub mod Walks

@@ -3,15 +3,16 @@ use Prim.Native.Nat.{ℕ, zero, suc, ◌+◌, ◌-◌, ◌*◌, ◌/◌, ◌%◌
 use native.Mathlib.Nat.{mod-lt, div-add-mod}
 use native.Mathlib.Omega.{arith}
 use native.Mathlib.Decide.{dec_lt}
-use mathlib.Core.Path.{◌≡◌, refl, sym, ap, ◌∙◌}
+use mathlib.Core.Path.{◌≡◌, refl, sym, ◌∙◌}
 use mathlib.Core.List.{List, [], ◌∷◌, ◌++◌}
 use lib.ListN.{length, get_or, length-append, get_or-append}
 use lib.Seq.{get_or-append-add}
 use borrow.Author.Tests.{lt-ltb, le-ltb}
 use Rattle.text.specs.Numeral.{decimal, numeral}
-use Rattle.text.specs.inner.Put.{Put}
+use Rattle.text.specs.declared.page.Page.{Page}
+use Rattle.text.specs.inner.Printed.{Printed}
 use Rattle.text.specs.claims.Numerals.{NumeralOf, Numerals}
-use Rattle.text.proofs.Put.{put_none, ◌then◌, put_as}
+use Rattle.text.proofs.Printed.{printed_none, ◌then◌, printed_as}
 
 numeral_none : (m n : ℕ) → m ≡ 0 → numeral m n ≡ []
 unfolding numeral
@@ -27,18 +28,18 @@ unfolding numeral
 numeral_more zero n h k = absurd (omega arith)
 numeral_more (suc m) n h k = let e : suc m - 1 ≡ m = omega arith in rw (le-ltb n 10 k, e)
 
--- `put_digits`: no digit, one, and one more after those of n / 10
-module _ {l : List ℕ} {at : ℕ} (m n : ℕ) where
-  pub put_no_digit : m < 1 → Put l at (numeral m n) l at
-  put_no_digit e = put_as put_none (sym (numeral_none m n (omega arith)))
+-- `Page::digits`: no digit, one, and one more after those of n / 10
+pub digits_none : (p : Page) (m n : ℕ) → m < 1 → Printed p (numeral m n) p
+digits_none p m n e = printed_as (printed_none p) (sym (numeral_none m n (omega arith)))
 
-  pub put_one_digit : {d : ℕ} {l' : List ℕ} {next : ℕ} → 1 ≤ m → n < 10 → d ≡ 48 + n → Put l at (d ∷ []) l' next → Put l at (numeral m n) l' next
-  put_one_digit some h e p = put_as p (ap (λ (b : ℕ). b ∷ []) e ∙ sym (numeral_small m n some h))
+module _ {p q r : Page} {m n d : ℕ} (some : 1 ≤ m) (last : d ≡ 48 + n % 10) (put : Printed q (d ∷ []) r) where
+  pub digits_one : n < 10 → q ≡ p → Printed p (numeral m n) r
+  digits_one small is_p =
+      let one : d ≡ 48 + n = omega arith in
+      printed_as (rw is_p at put) (rw (one, numeral_small m n some small))
 
-  pub put_digit_more : {d j k : ℕ} {l' l'' : List ℕ} → 1 ≤ m → 10 ≤ n → Put l at (numeral (m - 1) (n / 10)) l' j → d ≡ 48 + n % 10
-      → Put l' j (d ∷ []) l'' k → Put l at (numeral m n) l'' k
-  put_digit_more some h p e q =
-      put_as (p then q) (ap (λ (b : ℕ). numeral (m - 1) (n / 10) ++ (b ∷ [])) e ∙ sym (numeral_more m n some h))
+  pub digits_more : {q' : Page} → 10 ≤ n → Printed p (numeral (m - 1) (n / 10)) q' → q ≡ q' → Printed p (numeral m n) r
+  digits_more more front is_q = printed_as (front then (rw is_q at put)) (rw (last, numeral_more m n some more))
 
 -- ten to the power of m
 abbrev tens : ℕ → ℕ

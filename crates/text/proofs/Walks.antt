@@ -2,12 +2,9 @@
 use Prim.Native.Nat.{ℕ, ◌+◌, ◌<◌, ◌≤◌, max}
 use Prim.Native.Char.{code}
 use native.Mathlib.Omega.{arith}
-use mathlib.Core.Path.{◌≡◌, refl, sym, ◌∙◌}
+use mathlib.Core.Path.{◌≡◌, refl, ◌∙◌}
 use mathlib.Core.List.{List}
-use mathlib.Core.Bool.{true, false}
 use lib.ListN.{length, get_or, drop}
-use Rattle.memory.specs.Lists.{same}
-use Rattle.memory.proofs.Same.{same_step, same_differ, same_end}
 use Rattle.text.specs.Pieces.{placed}
 use Rattle.text.specs.inner.Scan.{Until, Unspaced}
 use Rattle.text.proofs.Cuts.{until_here, below-from, placed_space}
@@ -30,6 +27,9 @@ module _ {end from : ℕ} {l : List ℕ} where
 
   pub passed_all : {at : ℕ} → Passed end from l at → length l ≤ at → Until end from l at
   passed_all {at} p h = until_here end from at l p.least p.most p.free (λ k. absurd (omega arith))
+
+  pub passed_end : {at r : ℕ} → Passed end from l at → length l ≤ at → r ≡ max from (length l) → Until end from l r
+  passed_end {at} p h e = let same : at ≡ max from (length l) = omega (arith, p.least, p.most) in rw (e, ← same) (passed_all p h)
 
 -- `unspaced`: only spaces so far
 pub record Spaces (from : ℕ) (l : List ℕ) (at : ℕ) : Type 0 where
@@ -55,22 +55,3 @@ module _ {from : ℕ} {l : List ℕ} where
 
   pub spaces_all : {at : ℕ} → Spaces from l at → length l ≤ at → Unspaced from l at
   spaces_all {at} s h = record { least = s.least; most = s.most; each = s.each; other = λ k. absurd (omega arith); same_parts = s.same_parts }
-
--- `equal`: the bytes so far are alike
-pub record Alike (p q : List ℕ) (at : ℕ) : Type 0 where
-  pub within : at ≤ length p
-  pub long : length p ≡ length q
-  pub rest : same p q ≡ same (drop at p) (drop at q)
-
-module _ {p q : List ℕ} where
-  pub alike_none : length p ≡ length q → Alike p q 0
-  alike_none e = record { within = omega arith; long = e; rest = refl }
-
-  pub alike_one : {at : ℕ} → Alike p q at → at < length p → get_or p at 0 ≡ get_or q at 0 → Alike p q (at + 1)
-  alike_one {at} a h e = record { within = omega arith; long = a.long; rest = a.rest ∙ same_step p q at h (omega (arith, a.long)) e }
-
-  pub unlike : {at : ℕ} → Alike p q at → at < length p → (get_or p at 0 ≡ get_or q at 0 → ⊥) → false ≡ same p q
-  unlike {at} a h other = sym (a.rest ∙ same_differ p q at h (omega (arith, a.long)) other)
-
-  pub alike_all : {at : ℕ} → Alike p q at → length p ≤ at → true ≡ same p q
-  alike_all {at} a h = sym (a.rest ∙ same_end p q at h (omega (arith, a.long)))

@@ -1,7 +1,5 @@
 -- Decimal numerals, read and printed.
-use Rattle.std.specs.Prelude.{ℕ, zero, suc, ◌+◌, ◌*◌, ◌-◌, ◌/◌, ◌%◌, List, [], ◌∷◌, ◌++◌, Bool, true, cond, not, ◌&&◌, ◌||◌, length, ltb}
-use Rattle.text.specs.declared.numeral.Numeral.{Numeral}
-use Rattle.text.specs.declared.numeral.Numeral.TheVariants.{Number, Over}
+use Rattle.std.specs.Prelude.{ℕ, zero, suc, ◌+◌, ◌*◌, ◌-◌, ◌/◌, ◌%◌, List, [], ◌∷◌, ◌++◌, Bool, true, cond, not, ◌&&◌, ◌||◌, length, ltb, Option, None, Some}
 
 -- Document 01: "a numeral is a run of digits": bytes 48 to 57.
 unfoldable pub digits : List ℕ → Bool
@@ -14,8 +12,8 @@ decimal v [] = v
 decimal v (b ∷ bytes) = decimal (10 * v + (b - 48)) bytes
 
 -- A numeral of at most `long` digits and at most `most`; leading zeros count as digits.
-abbrev pub numeral_of : ℕ → ℕ → List ℕ → Numeral
-numeral_of long most p = cond (ltb long (length p) || ltb most (decimal 0 p)) Over (Number (decimal 0 p))
+abbrev pub numeral_of : ℕ → ℕ → List ℕ → Option ℕ
+numeral_of long most p = cond (ltb long (length p) || ltb most (decimal 0 p)) None (Some (decimal 0 p))
 
 -- Document 01: "Printed numbers have no leading zeros." The last `most` decimal digits of n, with no zero before the first that isn't one.
 unfoldable pub numeral : ℕ → ℕ → List ℕ

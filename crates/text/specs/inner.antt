@@ -1,3 +1,3 @@
 -- What the contracts of inner functions say.
 pub mod Scan
-pub mod Put
+pub mod Printed

@@ -7,11 +7,8 @@ mod numeral;
 mod page;
 mod parts;
 mod put_numeral;
-mod word;
 
 pub use bytes::{equal, unspaced, until};
-pub use numeral::{Numeral, all_digits, read_numeral};
-pub use page::put_text;
+pub use numeral::{all_digits, read_numeral};
+pub use page::Page;
 pub use parts::{Part, next_part};
-pub use put_numeral::put_number;
-pub use word::put_unless;

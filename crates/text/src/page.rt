@@ -1,25 +1,36 @@
-// Bytes at a position of a page. What has no room is left out, and the answer is the position after what was printed.
-ghost use Rattle.std.specs.Prelude.{[], ◌∷◌};
-ghost use Rattle.text.specs.inner.Put.{Put};
+// A lent page that is printed on from a position. What has no room is left out.
+ghost use Rattle.std.specs.Prelude.{[], ◌∷◌, ◌≡◌};
+ghost use Rattle.text.specs.inner.Printed.{Printed};
 
-pub fn put_byte(page: &mut [u8], at: usize, byte: u8) -> usize
-    ensures { Put page.old at (byte ∷ []) page.new result }
-{
-    if at < page.len() {
-        page[at] = byte;
-        return at + 1;
-    }
-    at
+#[derive(Drop)]
+pub struct Page<'a> {
+    pub bytes: &'a mut [u8],
+    pub at: usize,
 }
 
-pub fn put_text(page: &mut [u8], at: usize, text: &[u8]) -> usize
-    ensures { Put page.old at text.now page.new result }
-{
-    let mut next = at;
-    let mut p = 0;
-    while p < text.len() {
-        next = put_byte(page, next, text[p]);
-        p += 1;
+impl<'a> Page<'a> {
+    pub fn new(bytes: &'a mut [u8]) -> Page<'a>
+        ensures same_reference { result.bytes.ghost_name ≡ bytes.entry.ghost_name }
+        ensures now { result.bytes.now ≡ bytes.old }
+        ensures at { result.at ≡ 0 }
+    {
+        Page { bytes, at: 0 }
     }
-    next
+
+    pub fn byte(&mut self, byte: u8)
+        ensures { Printed self.old (byte ∷ []) self.new }
+    {
+        if self.at < self.bytes.len() {
+            self.bytes[self.at] = byte;
+            self.at += 1;
+        }
+    }
+
+    pub fn text(&mut self, text: &[u8])
+        ensures { Printed self.old text.now self.new }
+    {
+        for byte in text {
+            self.byte(*byte);
+        }
+    }
 }

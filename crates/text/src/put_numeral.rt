@@ -1,34 +1,56 @@
-// Decimal numerals without leading zeros.
-ghost use Rattle.std.specs.Prelude.{◌≡◌, ◌+◌, ◌<◌};
+// Decimal numerals without leading zeros, and a table's words.
+ghost use Rattle.std.specs.Prelude.{◌≡◌, ◌+◌, ◌<◌, ◌++◌, cond, eqb};
+ghost use Rattle.text.specs.Ascii.{ascii};
 ghost use Rattle.text.specs.Numeral.{numeral, shown};
-ghost use Rattle.text.specs.inner.Put.{Put};
+ghost use Rattle.text.specs.inner.Printed.{Printed};
 
-use crate::page::put_byte;
+use crate::page::Page;
 
 fn digit(n: u32) -> u8
     requires { n < 10 }
     ensures { result ≡ 48 + n }
 {
-    (48 + n) as u8
+    b'0' + n as u8
 }
 
-// The last `most` digits of n.
-fn put_digits(page: &mut [u8], at: usize, most: u32, n: u32) -> usize
-    ensures { Put page.old at (numeral most n) page.new result }
-{
-    if most < 1 {
-        return at;
+impl Page<'_> {
+    // The last `most` digits of n.
+    fn digits(&mut self, most: u32, n: u32)
+        ensures { Printed self.old (numeral most n) self.new }
+    {
+        if most < 1 {
+            return;
+        }
+        let others = n >= 10;
+        if others {
+            self.digits(most - 1, n / 10);
+        }
+        self.byte(digit(n % 10));
     }
-    if n < 10 {
-        return put_byte(page, at, digit(n));
-    }
-    let next = put_digits(page, at, most - 1, n / 10);
-    put_byte(page, next, digit(n % 10))
-}
 
-// A number of at most 5 digits.
-pub fn put_number(page: &mut [u8], at: usize, n: u32) -> usize
-    ensures { Put page.old at (shown n) page.new result }
-{
-    put_digits(page, at, 5, n)
+    // A number of at most 5 digits.
+    pub fn number(&mut self, n: u32)
+        ensures { Printed self.old (shown n) self.new }
+    {
+        self.digits(5, n);
+    }
+
+    // A number after a space.
+    pub fn spaced(&mut self, n: u32)
+        ensures { Printed self.old (ascii " " ++ shown n) self.new }
+    {
+        self.text(b" ");
+        self.number(n);
+    }
+
+    // A word, or `-` where it is the none word given.
+    pub fn unless(&mut self, none: u16, word: u16)
+        ensures { Printed self.old (cond (eqb word none) (ascii "-") (shown word)) self.new }
+    {
+        if word == none {
+            self.text(b"-");
+        } else {
+            self.number(u32::from(word));
+        }
+    }
 }

@@ -1,61 +1,65 @@
 // The texts of the input.
-use crate::print;
-use job_reading::Read;
-use job_text::read;
-use refusals::number;
-use std::io;
-use text::until;
+ghost use Rattle.std.specs.Prelude.{◌≤◌};
 
-// One text into three buffers: what was read and what the buffers then hold, but for zeros at their ends.
-pub fn one(
+use job_text::read;
+use std::io;
+use std::io::Print;
+
+// The words up to the last that isn't 0.
+fn buffer(rt: &HostRuntime, name: &str, words: &[u16]) -> io::Result<()> {
+    print!(rt; "; {name}")?;
+    let used = words
+        .iter()
+        .rposition(|word| *word != 0)
+        .map_or(0, |last| last + 1);
+    for word in &words[..used] {
+        print!(rt; " {word}")?;
+    }
+    Ok(())
+}
+
+// One text into three buffers that hold other words: what was read, and what the buffers then hold.
+pub fn one<const A: usize, const S: usize, const W: usize>(
     rt: &HostRuntime,
     label: &[u8],
     text: &[u8],
-    algebras: &mut [u16],
-    sizes: &mut [u16],
-    weights: &mut [u16],
-) -> io::Result<()> {
-    let answer = read(text, algebras, sizes, weights);
-    print::text(rt, label)?;
+) -> io::Result<()>
+    requires algebras { A ≤ 65536 }
+    requires sizes { S ≤ 65536 }
+    requires weights { W ≤ 65536 }
+{
+    let mut algebras = [9u16; A];
+    let mut sizes = [9u16; S];
+    let mut weights = [9u16; W];
+    let answer = read(text, &mut algebras, &mut sizes, &mut weights);
+    rt.write_all(label)?;
     match answer {
-        Read::List { order, jobs } => {
-            print::text(rt, b": list of order")?;
-            print::number(rt, order as u32)?;
-            print::text(rt, b" jobs")?;
-            print::number(rt, jobs as u32)?;
-        }
-        Read::Refused(why) => {
-            print::text(rt, b": refused")?;
-            let reason = why.reason;
-            print::number(rt, number(reason))?;
-            print::number(rt, why.line)?;
-        }
+        Ok(list) => print!(rt; ": list of order {} jobs {}", list.order, list.jobs)?,
+        Err(why) => print!(rt; ": refused {} {}", u32::from(why.reason), why.line)?,
     }
-    print::buffer(rt, b"; algebras", algebras)?;
-    print::buffer(rt, b"; sizes", sizes)?;
-    print::buffer(rt, b"; weights", weights)?;
-    print::end(rt)
+    buffer(rt, "algebras", &algebras)?;
+    buffer(rt, "sizes", &sizes)?;
+    buffer(rt, "weights", &weights)?;
+    println!(rt;)
 }
 
-// One text into buffers of the right lengths that hold other words.
+// One text into buffers of the right lengths.
 pub fn fresh(rt: &HostRuntime, label: &[u8], text: &[u8]) -> io::Result<()> {
-    let mut algebras = [9u16; 16];
-    let mut sizes = [9u16; 16];
-    let mut weights = [9u16; 16384];
-    one(rt, label, text, &mut algebras, &mut sizes, &mut weights)
+    one::<16, 16, 16384>(rt, label, text)
 }
 
+// Each text behind its label. A text without an end goes on to the end of the input.
 pub fn all(rt: &HostRuntime, input: &[u8]) -> io::Result<()> {
-    let mut at = 0;
-    while at < input.len() {
-        let label = until(input, at, b'\n');
-        if label < input.len() {
-            let end = until(input, label + 1, 12);
-            fresh(rt, &input[at..label], &input[label + 1..end])?;
-            at = end + 1;
-        } else {
-            at = label;
-        }
+    let mut rest = input;
+    while let Some(end) = rest.iter().position(|byte| *byte == b'\n') {
+        let label = &rest[..end];
+        let text = &rest[end + 1..];
+        let end = text
+            .iter()
+            .position(|byte| *byte == 12)
+            .unwrap_or(text.len());
+        fresh(rt, label, &text[..end])?;
+        rest = &text[text.len().min(end + 1)..];
     }
     Ok(())
 }

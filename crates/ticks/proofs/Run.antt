@@ -5,32 +5,24 @@ use mathlib.Core.Path.{◌≡◌, refl, sym, ap, ◌∙◌}
 use mathlib.Core.List.{List}
 use lib.ListN.{length}
 use Rattle.job_list.specs.Jobs.{Jobs, jobs_of}
-use Rattle.job_list.specs.Fits.{Small}
 use Rattle.job_list.proofs.Fits.{fits_small, words_most}
 use Rattle.systolic.specs.Cell.{Planes}
 use Rattle.systolic.specs.Tick.{Array, planes_after, emitted_rows, ticked, ticks}
 use Rattle.systolic.proofs.Ticks.{ticks_add}
-use Rattle.systolic.proofs.Totals.{total_most}
 use Rattle.turns.specs.Turn.{step_of}
 use Rattle.turns.specs.Layout.{planes_in}
 use Rattle.stage.specs.declared.jobs.Job.{Job}
 use Rattle.stage.specs.declared.stage.Stage.{Stage}
-use Rattle.stage.specs.Found.{Listed, Findable, AlgebraIn, Found}
+use Rattle.stage.specs.Found.{AlgebraIn, Found}
 use Rattle.stage.specs.Staged.{Staged}
 use Rattle.feeding.specs.Filled.{Filling, Filled}
-use Rattle.ticks.specs.Swept.{Sweeping, Held, Edged, Made}
+use Rattle.ticks.specs.Swept.{Held, Edged, Made}
 use Rattle.emission.specs.Sent.{Emitting}
 use Rattle.ticks.specs.Ready.{array_of, Ready}
 use Rattle.ticks.proofs.Edged.{edged}
 use Rattle.ticks.proofs.Lent.{held_planes, made_planes}
 
 module _ {J : Jobs} {last : ℕ} {edges planes results : List ℕ} (ready : Ready J last edges planes results) where
-  pub ready_small : Small J.sizes
-  ready_small = fits_small ready.list
-
-  pub ready_last : last ≤ 2110
-  ready_last = omega (arith, ready.ticks, total_most ready.list.ranged.most ready.list.ranged.few)
-
   -- The array stays ready as long as its memories keep their lengths.
   pub ready_again : {last' : ℕ} {edges' planes' results' : List ℕ} → last' ≤ last → length edges' ≡ length edges
       → length planes' ≡ length planes → length results' ≡ length results → Ready J last' edges' planes' results'
@@ -58,13 +50,6 @@ module _ {algebras : List ℕ} {n : ℕ} {sizes weights : List ℕ} {s : Stage} 
     few = omega (arith, ready.weights_fit, words_most (fits_small ready.list));
     planes_fit = same' ∙ ready.planes_fit;
     room = omega (arith, ready.edges_fit);
-  }
-
-  pub tick_sweeps : {edges' : List ℕ} → length edges' ≡ length edges
-      → Sweeping n (length sizes) s.head edges' planes
-  tick_sweeps same = record {
-    lent = record { turn = stage.head; long = ready.planes_fit };
-    room = record { most = stage.head.most; wide = omega (arith, ready.edges_fit); long = ready.planes_fit };
   }
 
   pub tick_emits : {pass : ℕ} {job : Job} {planes' : List ℕ} → Found algebras sizes pass job → length planes' ≡ length planes → Emitting n s.head job planes' results
@@ -133,26 +118,6 @@ module _ {J : Jobs} {from to t : ℕ} {planes₀ results₀ edges planes results
   ends last = let e : t ≡ to = omega (arith, c.most) in rw e at c.array
 
   module _ (more : t < to) where
-    pub one_asked : {n : ℕ} {algebras sizes : List ℕ} {s : Stage} → Staged n t algebras sizes s
-        → Ready J (s.tick + 1) edges planes results × Staged n s.tick algebras sizes s
-    one_asked stage = (
-      ready_again c.ready (omega (arith, stage.tick)) refl refl refl,
-      record {
-        tick = refl;
-        head = stage.head;
-        step = omega (arith, stage.step, stage.tick);
-        front = stage.front;
-        middle = stage.middle;
-        back = stage.back;
-      },
-    )
-
-    pub findable : {starts : List ℕ} → Listed J.sizes starts → Findable J.algebras J.sizes starts
-    findable marked = record { one_each = c.ready.list.algebras_fit; listed = marked }
-
-    pub tick_room : t ≤ 2110
-    tick_room = omega (arith, ready_last c.ready)
-
     pub goes_on : {n : ℕ} {algebras sizes : List ℕ} {s : Stage} {edges' planes' results' : List ℕ} → Staged n t algebras sizes s
         → length edges' ≡ length edges → length planes' ≡ length planes → length results' ≡ length results
         → array_of J.order planes' results' ≡ ticked J s.tick (array_of J.order planes results)

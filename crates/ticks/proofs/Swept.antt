@@ -15,7 +15,7 @@ use Rattle.systolic.specs.Tick.{cell_after}
 use Rattle.memory.proofs.Geometry.{row_fits}
 use Rattle.turns.specs.Turn.{live, job_in, pass_in, Phase, Head, step_of}
 use Rattle.turns.specs.declared.turn.Turn.{Turn}
-use Rattle.turns.specs.Layout.{words_at, Lent}
+use Rattle.turns.specs.Layout.{words_at}
 use Rattle.turns.proofs.Turns.{on_cell, phase_of, pass_most, pass_near, live_same}
 use Rattle.moves.specs.Slid.{Slid}
 use Rattle.moves.specs.Edges.{Entered}
@@ -187,15 +187,8 @@ module _ (algebras : List ℕ) (n : ℕ) (sizes weights : List ℕ) (t : ℕ) (r
               ∙ ap (λ (z : Bool). cond z (come J r pass k i j) (cell_of J r i j)) f
 
 -- The planes keep their length from call to call.
-pub slid_lent : {n count u : ℕ} {s : Turn} {edges l l₁ : List ℕ} → Sweeping n count s edges l → Slid n count u l 0 l₁ → Lent n count s l₁
-slid_lent asked slid = record { turn = asked.lent.turn; long = slid.size ∙ asked.lent.long }
-
 pub slid_edges : {n count u : ℕ} {s : Turn} {edges l l₁ : List ℕ} → Sweeping n count s edges l → Slid n count u l 0 l₁ → WithEdges n l₁ edges
 slid_edges asked slid = record { most = asked.room.most; wide = asked.room.wide; long = slid.size ∙ asked.room.long }
-
-pub came_lent : {n count u u' : ℕ} {s : Turn} {edges l l₁ l₂ : List ℕ} → Sweeping n count s edges l → Slid n count u l 0 l₁
-    → Entered n count u' edges l₁ l₂ → Lent n count s l₂
-came_lent asked slid entered = record { turn = asked.lent.turn; long = entered.size ∙ slid.size ∙ asked.lent.long }
 
 -- The same in the words of the code.
 pub sweep_made : {here behind : Algebra} (n : ℕ) {count : ℕ} {head : Turn} {edges l l₁ l₂ l₃ : List ℕ} → Sweeping n count head edges l

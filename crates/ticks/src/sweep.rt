@@ -9,7 +9,7 @@ ghost use Rattle.ticks.specs.Swept.{Sweeping, Held, Edged, Made};
 use cells::settle;
 use moves::{enter, slide};
 use semiring::Algebra;
-use turns::Turn;
+use turns::{Front, Turn};
 
 // `head` is the turn of cell (0, 0), `here` the algebra of the job of its pass and `behind` that of the pass before.
 pub fn sweep(
@@ -27,7 +27,8 @@ pub fn sweep(
         → Held (jobs_of algebras n sizes weights) r planes.old → Edged (jobs_of algebras n sizes weights) t r edges.now
         → Made (jobs_of algebras n sizes weights) t r planes.new }
 {
-    slide(n, count, head, planes);
-    enter(n, count, head, edges, planes);
-    settle(here, behind, n, count, head, planes);
+    let front = Front { n, count, head };
+    slide(front, planes);
+    enter(front, edges, planes);
+    settle(here, behind, front, planes);
 }

@@ -1,25 +1,22 @@
 -- What a call answers: a refusal of the elimination's checks, one of its own tests, or a way.
-use Prim.Native.Nat.{ℕ, ◌*◌, ◌<◌, ◌≤◌}
+use Prim.Native.Nat.{ℕ, ◌<◌}
 use mathlib.Core.Path.{◌≡◌, refl, sym, ap, ◌∙◌}
 use mathlib.Core.List.{List, []}
 use mathlib.Core.Bool.{Bool, false, not}
 use lib.ListN.{length}
-use lib.Dec.{eqb}
-use borrow.Author.Tests.{eqb-false, not-false}
+use borrow.Author.Tests.{not-false}
 use Rattle.memory.specs.Lists.{same}
 use Rattle.memory.proofs.Same.{same_equal}
-use Rattle.refusals.proofs.First.{First, answers, first_before, found_after, none_applied}
+use Rattle.refusals.specs.Tests.{first}
+use Rattle.refusals.proofs.First.{first_before, first_after, none_applied}
 use Rattle.semiring.specs.Named.{named_of}
 use Rattle.semiring.specs.declared.Algebra.{Algebra}
-use Rattle.semiring.specs.declared.Named.{Named}
-use Rattle.semiring.specs.declared.Named.TheVariants.{Known, Unknown}
+use Rattle.std.specs.Prelude.{Option, Some, None, Result, Ok, Err}
 use Rattle.closure.specs.Elimination.{eliminated}
 use Rattle.closure.specs.Tests.{elimination_table, elimination_tests}
 use Rattle.closure.proofs.Accepted.{Accepted}
 use Rattle.refusals.specs.Reason.{reason_number}
 use Rattle.checks.specs.inner.Checks.{Checks}
-use Rattle.checks.specs.declared.Checked.{Checked}
-use Rattle.checks.specs.declared.Checked.TheVariants.{Fit, Refused}
 use Rattle.refusals.specs.declared.Reason.{Reason}
 use Rattle.refusals.proofs.Reasons.{reason_some}
 use Rattle.checks.proofs.Answers.{refused_number, fit_tests, fit_input}
@@ -29,10 +26,10 @@ use Rattle.ways.specs.Given.{WayGiven}
 use Rattle.ways.specs.inner.Sought.{Sought, Found}
 
 -- What the checks found stands.
-checked_before : (d : Named) (n : ℕ) (w c : List ℕ) (from to : ℕ) (list : List ℕ) → (elimination_tests d n w c ≡ 0 → ⊥)
+checked_before : (d : Option Algebra) (n : ℕ) (w c : List ℕ) (from to : ℕ) (list : List ℕ) → (elimination_tests d n w c ≡ 0 → ⊥)
     → way_tests d n w c from to list ≡ elimination_tests d n w c
-checked_before Unknown n w c from to list some = refl
-checked_before (Known a) n w c from to list some = first_before (elimination_table a n w c) (further_table a n w c from to list) some
+checked_before None n w c from to list some = refl
+checked_before (Some a) n w c from to list some = first_before (elimination_table a n w c) (further_table a n w c from to list) some
 
 turned : {number algebra n : ℕ} {w c : List ℕ} {from to : ℕ} {list : List ℕ} → way_tests (named_of algebra) n w c from to list ≡ number
     → (number ≡ 0 → ⊥) → WayGiven number 0 algebra n w c from to list list
@@ -44,8 +41,8 @@ turned e some = record {
   memory = refl;
 }
 
-module _ {checked : Checked} {algebra n : ℕ} {w c : List ℕ} (found : Checks checked algebra n w c) where
-  pub refused_checks : {from to : ℕ} {list : List ℕ} (reason : Reason) → checked ≡ Refused reason
+module _ {checked : Result Algebra Reason} {algebra n : ℕ} {w c : List ℕ} (found : Checks checked algebra n w c) where
+  pub refused_checks : {from to : ℕ} {list : List ℕ} (reason : Reason) → checked ≡ Err reason
       → WayGiven (reason_number reason) 0 algebra n w c from to list list
   refused_checks {from} {to} {list} reason e =
       let k = refused_number found e in
@@ -53,22 +50,24 @@ module _ {checked : Checked} {algebra n : ℕ} {w c : List ℕ} (found : Checks 
       turned (checked_before (named_of algebra) n w c from to list (λ z. some (k ∙ z)) ∙ sym k) some
 
   -- the checks found nothing
-  module _ (a : Algebra) (e : checked ≡ Fit a) where
+  module _ (a : Algebra) (e : checked ≡ Ok a) where
     input : Accepted a n w c
     input = fit_input found e
 
-    answered : (from to : ℕ) (list : List ℕ) {number : ℕ} → First 0 (further_table a n w c from to list) number
+    answered : (from to : ℕ) (list : List ℕ) {number : ℕ} → first 0 (further_table a n w c from to list) ≡ number
         → way_tests (named_of algebra) n w c from to list ≡ number
     answered from to list further =
-        ap (λ (d : Named). way_tests d n w c from to list) (found.fit a e)
-        ∙ answers (found_after (elimination_table a n w c) (none_applied (elimination_table a n w c) refl (fit_tests found a e)) further)
+        ap (λ (d : Option Algebra). way_tests d n w c from to list) (found.fit a e)
+        ∙ first_after (elimination_table a n w c) (further_table a n w c from to list)
+        (none_applied (elimination_table a n w c) refl (fit_tests found a e))
+        ∙ further
 
     module _ {from to : ℕ} {list : List ℕ} where
-      pub refused : {number : ℕ} → First 0 (further_table a n w c from to list) number → eqb number 0 ≡ false
-          → WayGiven number 0 algebra n w c from to list list
-      refused {number} further some = turned (answered from to list further) (eqb-false number 0 some)
+      pub refused : (reason : Reason) → first 0 (further_table a n w c from to list) ≡ reason_number reason
+          → WayGiven (reason_number reason) 0 algebra n w c from to list list
+      refused reason further = turned (answered from to list further) (reason_some reason)
 
-      pub given : {list' : List ℕ} {count : ℕ} → First 0 (further_table a n w c from to list) 0 → Found a n w c from to list list' count
+      pub given : {list' : List ℕ} {count : ℕ} → first 0 (further_table a n w c from to list) ≡ 0 → Found a n w c from to list list' count
           → WayGiven 0 count algebra n w c from to list list'
       given further way = record {
         points = way.points;
@@ -95,9 +94,3 @@ module _ {checked : Checked} {algebra n : ℕ} {w c : List ℕ} (found : Checks 
 
     pub tables : Tables n 128 w c
     tables = record { fits = input.most; links = input.weights; table = input.result }
-
-    pub fits_most : n ≤ 128
-    fits_most = input.most
-
-    pub fits_closed : length c ≡ n * n
-    fits_closed = input.result

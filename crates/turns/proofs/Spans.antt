@@ -3,11 +3,11 @@ use Prim.Native.Nat.{ℕ, ◌+◌, ◌-◌, ◌*◌, ◌%◌, ◌<◌, ◌≤◌
 use native.Mathlib.Omega.{arith}
 use native.Mathlib.Decide.{dec_lt}
 use mathlib.Core.Path.{◌≡◌, refl, sym, ap, ◌∙◌}
-use mathlib.Core.Bool.{Bool, true, false, true≢false, cond, ◌&&◌, and-false}
+use mathlib.Core.Bool.{Bool, true, false, true≢false, cond, ◌&&◌}
 use lib.Dec.{eqb, leb, ltb}
 use mathlib.Core.Logic.{◌≢◌}
-use borrow.Author.Tests.{eq-eqb, ne_eqb, le-ltb, lt-ltb, le-leb, leb-true, ltb-true, eqb-true}
-use Rattle.turns.specs.Turn.{live, begins, sums, pass_in, step_of}
+use borrow.Author.Tests.{eq-eqb, lt-ltb, le-leb, leb-true, ltb-true, eqb-true}
+use Rattle.turns.specs.Turn.{live, begins, pass_in, step_of}
 use Rattle.memory.proofs.Any.{both_true}
 use Rattle.memory.proofs.Geometry.{same_digits}
 use Rattle.turns.specs.declared.turn.Turn.{Turn}
@@ -64,20 +64,7 @@ module _ (n : ℕ) (test : ℕ → Bool) (s : Turn) (r : Columns) (below : s.poi
       in_span j pass k f g b e (no h) =
           here j pass k (omega arith) b e ∙ is_true (test s.pass) r.from 0 (s.point + 1) from (λ z. omega arith)
 
--- The two ends of a span by the two answers.
-module _ {n k : ℕ} {here behind : Bool} where
-  pub parted_both : here ≡ true → behind ≡ true → Parted n k here behind (record { from = 0; to = n })
-  parted_both e f = rw (e, f) (record { from = refl; to = refl })
-
-  pub parted_here : here ≡ true → behind ≡ false → Parted n k here behind (record { from = 0; to = k + 1 })
-  parted_here e f = rw (e, f) (record { from = refl; to = refl })
-
-  pub parted_behind : here ≡ false → behind ≡ true → Parted n k here behind (record { from = k + 1; to = n })
-  parted_behind e f = rw (e, f) (record { from = refl; to = refl })
-
-  pub parted_none : here ≡ false → behind ≡ false → Parted n k here behind (record { from = k + 1; to = k + 1 })
-  parted_none e f = rw (e, f) (record { from = refl; to = refl })
-
+-- The same by the two answers.
 pub spans_told : {n : ℕ} {test : ℕ → Bool} {s : Turn} {r : Columns} {here behind : Bool} → s.point < n → 1 ≤ s.pass
     → here ≡ test s.pass → behind ≡ test (s.pass - 1) → Parted n s.point here behind r → Spans n test (step_of n s) r
 spans_told {n} {test} {s} {r} below least e f ends =
@@ -88,24 +75,14 @@ and-true : (x : Bool) → x ≡ (x && true)
 and-true true = refl
 and-true false = refl
 
--- The first pass of a job begins it, and the others do not.
+-- The first pass of a job begins it.
 pub begins_first : (count pass : ℕ) → pass % 4 ≡ 0 → live count pass ≡ begins count pass
 begins_first count pass e = rw (eq-eqb (pass % 4) 0 e) (and-true (live count pass))
-
-pub begins_later : (count pass : ℕ) → pass % 4 ≢ 0 → false ≡ begins count pass
-begins_later count pass e = rw (ne_eqb (pass % 4) 0 e, and-false (live count pass))
 
 pub begins_parts : (count pass : ℕ) → begins count pass ≡ true → (live count pass ≡ true) × (pass % 4 ≡ 0)
 begins_parts count pass e =
     let (f, g) = both_true (live count pass) (eqb (pass % 4) 0) e in
     (f, eqb-true (pass % 4) 0 g)
-
--- The fourth pass adds nothing.
-pub sums_late : (count pass : ℕ) → pass % 4 ≡ 3 → false ≡ sums count pass
-sums_late count pass e = rw (le-ltb (pass % 4) 3 (omega arith), and-false (live count pass))
-
-pub sums_early : (count pass : ℕ) → pass % 4 ≢ 3 → live count pass ≡ sums count pass
-sums_early count pass e = rw (lt-ltb (pass % 4) 3 (omega arith)) (and-true (live count pass))
 
 -- A column inside or outside.
 module _ {n : ℕ} {test : ℕ → Bool} {u : ℕ} {r : Columns} (span : Spans n test u r) (j pass k : ℕ) (b : j < n) (h : k < n) (e : n * pass + k + j ≡ u) where

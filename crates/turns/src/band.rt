@@ -19,27 +19,26 @@ impl Band {
         requires { (n ≤ 32) × (s.point < n) × (1 ≤ s.pass) }
         ensures { Banded n p (step_of n s) result }
     {
-        let pass = s.pass;
-        let point = s.point;
+        let Turn { pass, point } = s;
         let split = point + 1;
         if pass % 4 == p {
-            return Band {
+            Band {
                 from: 0,
                 to: split,
                 last: point,
-            };
-        }
-        if (pass - 1) % 4 == p {
-            return Band {
+            }
+        } else if (pass - 1) % 4 == p {
+            Band {
                 from: split,
                 to: n,
                 last: point + n,
-            };
-        }
-        Band {
-            from: 0,
-            to: 0,
-            last: 0,
+            }
+        } else {
+            Band {
+                from: 0,
+                to: 0,
+                last: 0,
+            }
         }
     }
 }

@@ -4,10 +4,12 @@
 
 mod band;
 mod columns;
+mod front;
 mod passes;
 mod turn;
 
 pub use band::Band;
 pub use columns::Columns;
+pub use front::Front;
 pub use passes::{begins, live, sums};
 pub use turn::Turn;

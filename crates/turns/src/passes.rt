@@ -7,13 +7,7 @@ pub fn live(count: usize, pass: usize) -> bool
     requires { count ≤ 16 }
     ensures { result ≡ livePass count pass }
 {
-    if pass < 4 {
-        return false;
-    }
-    if pass < 4 + 4 * count {
-        return true;
-    }
-    false
+    4 <= pass && pass < 4 + 4 * count
 }
 
 // Whether a pass is the first of a job.
@@ -21,10 +15,7 @@ pub fn begins(count: usize, pass: usize) -> bool
     requires { count ≤ 16 }
     ensures { result ≡ beginsIn count pass }
 {
-    if pass % 4 != 0 {
-        return false;
-    }
-    live(count, pass)
+    live(count, pass) && pass % 4 == 0
 }
 
 // Whether a cell in a pass adds to its c: not in the fourth of a job.
@@ -32,8 +23,5 @@ pub fn sums(count: usize, pass: usize) -> bool
     requires { count ≤ 16 }
     ensures { result ≡ sumsIn count pass }
 {
-    if pass % 4 == 3 {
-        return false;
-    }
-    live(count, pass)
+    live(count, pass) && pass % 4 < 3
 }

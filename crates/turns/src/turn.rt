@@ -2,6 +2,7 @@
 ghost use Rattle.std.specs.Prelude.{◌+◌, ◌-◌, ◌*◌, ◌≤◌, ◌<◌};
 ghost use Rattle.turns.specs.Turn.{At};
 
+// The order n is no field: contracts would then say that the n of two turns are equal, wherever they now say that a point is below n.
 #[derive(Clone, Copy)]
 pub struct Turn {
     pub pass: usize,
@@ -25,11 +26,10 @@ impl Turn {
         requires { (self.point < n) × (n ≤ 32) × (n * self.pass + self.point ≤ 65535) }
         ensures { At n (n * self.pass + self.point + 1) result }
     {
-        let pass = self.pass;
-        let point = self.point;
+        let Turn { pass, point } = self;
         if point + 1 < n {
             Turn {
-                pass: pass,
+                pass,
                 point: point + 1,
             }
         } else {
@@ -45,11 +45,10 @@ impl Turn {
         requires { (self.point < n) × (1 ≤ n * self.pass + self.point) }
         ensures { At n (n * self.pass + self.point - 1) result }
     {
-        let pass = self.pass;
-        let point = self.point;
+        let Turn { pass, point } = self;
         if 0 < point {
             Turn {
-                pass: pass,
+                pass,
                 point: point - 1,
             }
         } else {
@@ -65,18 +64,14 @@ impl Turn {
         requires { (self.point < n) × (n ≤ 32) × (1 ≤ self.pass) }
         ensures { At n (n * self.pass + self.point + 1 - n) result }
     {
-        let pass = self.pass;
-        let point = self.point;
+        let Turn { pass, point } = self;
         if point + 1 < n {
             Turn {
                 pass: pass - 1,
                 point: point + 1,
             }
         } else {
-            Turn {
-                pass: pass,
-                point: 0,
-            }
+            Turn { pass, point: 0 }
         }
     }
 }

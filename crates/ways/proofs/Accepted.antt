@@ -9,11 +9,11 @@ use Rattle.memory.proofs.Same.{same_equal}
 use Rattle.refusals.proofs.First.{Clear, none_applied, equal}
 use Rattle.semiring.specs.Algebra.{none_word_of}
 use Rattle.semiring.specs.declared.Algebra.{Algebra}
-use Rattle.semiring.specs.declared.Named.TheVariants.{Known}
 use Rattle.closure.specs.Table.{entries}
 use Rattle.closure.specs.Elimination.{eliminated}
 use Rattle.closure.proofs.Accepted.{Accepted, clear_accepted}
 use Rattle.ways.specs.Tests.{way_table, way_tests}
+use Rattle.std.specs.Prelude.{Some as Known}
 
 pub record WayAccepted (a : Algebra) (n : ℕ) (w c : List ℕ) (from to : ℕ) (list : List ℕ) : Type 0 where
   pub input : Accepted a n w c

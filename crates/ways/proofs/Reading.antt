@@ -10,7 +10,6 @@ use borrow.Author.Tests.{ne_eqb}
 use Rattle.semiring.specs.Algebra.{Betters}
 use Rattle.semiring.specs.Named.{named_of}
 use Rattle.semiring.specs.declared.Algebra.{Algebra}
-use Rattle.semiring.specs.declared.Named.TheVariants.{Known}
 use Rattle.semiring.proofs.Numbers.{Names, named_or_above}
 use Rattle.closure.specs.Table.{entries}
 use Rattle.closure.specs.Elimination.{closure, eliminated}
@@ -23,6 +22,7 @@ use Rattle.ways.specs.Given.{Attains}
 use Rattle.ways.specs.claims.Reading.{ReadOff, WayRead, WayKept, WayReadHost, WayKeptHost}
 use Rattle.ways.proofs.Accepted.{WayAccepted, way_accepted}
 use Rattle.ways.proofs.Follow.{way_short}
+use Rattle.std.specs.Prelude.{Some as Known}
 
 way_visits_end : {n i j : ℕ} {l : List ℕ} → Way n i j l → Visits j l
 way_visits_end (stay h) = now

@@ -2,12 +2,11 @@
 use Rattle.std.specs.Prelude.{ℕ, ◌≡◌, List, [], ◌++◌, cond, eqb, length, drop}
 use Rattle.semiring.specs.Named.{named_of}
 use Rattle.semiring.specs.declared.Algebra.{Algebra}
-use Rattle.semiring.specs.declared.Named.{Named}
-use Rattle.semiring.specs.declared.Named.TheVariants.{Known}
 use Rattle.closure.specs.Table.{entries}
 use Rattle.closure.specs.Ways.{Way, NoRepeat}
 use Rattle.closure.specs.claims.Demand.{word_over}
 use Rattle.ways.specs.Tests.{way_tests}
+use Rattle.std.specs.Prelude.{Option, Some as Known}
 
 -- "a way from the first to the second with no point twice whose word is the closed entry", over the links w
 pub record Attains (a : Algebra) (n : ℕ) (w : List ℕ) (from to entry : ℕ) (points : List ℕ) : Type 0 where
@@ -16,7 +15,7 @@ pub record Attains (a : Algebra) (n : ℕ) (w : List ℕ) (from to entry : ℕ) 
   pub word : word_over a n w points ≡ entry
 
 -- "Which list, among several such, is free": what holds of it. A refused call gives none.
-pub record Free (d : Named) (n : ℕ) (w c : List ℕ) (from to : ℕ) (list points : List ℕ) : Type 0 where
+pub record Free (d : Option Algebra) (n : ℕ) (w c : List ℕ) (from to : ℕ) (list points : List ℕ) : Type 0 where
   pub accepted : (a : Algebra) → d ≡ Known a → way_tests d n w c from to list ≡ 0 → Attains a n w from to (entries n c from to) points
   pub refused : (way_tests d n w c from to list ≡ 0 → ⊥) → points ≡ []
 

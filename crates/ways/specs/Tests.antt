@@ -4,11 +4,10 @@ use Rattle.memory.specs.Lists.{same}
 use Rattle.refusals.specs.Tests.{first}
 use Rattle.semiring.specs.Algebra.{none_word_of}
 use Rattle.semiring.specs.declared.Algebra.{Algebra}
-use Rattle.semiring.specs.declared.Named.{Named}
-use Rattle.semiring.specs.declared.Named.TheVariants.{Known, Unknown}
 use Rattle.closure.specs.Table.{entries}
 use Rattle.closure.specs.Elimination.{eliminated}
 use Rattle.closure.specs.Tests.{elimination_table}
+use Rattle.std.specs.Prelude.{Option, Some as Known, None as Unknown}
 
 -- "a list memory not n words long, a point outside the table, or a closed table that isn't the elimination's, is 19; an entry that is
 -- none is 20, tested last": of the links w, the closed table c, two points and the list's memory
@@ -25,6 +24,6 @@ further_table a n w c from to list =
 abbrev pub way_table : Algebra → ℕ → List ℕ → List ℕ → ℕ → ℕ → List ℕ → List (Bool × ℕ)
 way_table a n w c from to list = elimination_table a n w c ++ further_table a n w c from to list
 
-abbrev pub way_tests : Named → ℕ → List ℕ → List ℕ → ℕ → ℕ → List ℕ → ℕ
+abbrev pub way_tests : Option Algebra → ℕ → List ℕ → List ℕ → ℕ → ℕ → List ℕ → ℕ
 way_tests Unknown n w c from to list = 1
 way_tests (Known a) n w c from to list = first 0 (way_table a n w c from to list)

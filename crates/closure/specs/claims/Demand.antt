@@ -4,11 +4,11 @@ use Rattle.std.specs.Prelude.{ℕ, ◌<◌, ◌+◌, ◌*◌, ◌≡◌, List, g
 use Rattle.semiring.specs.Algebra.{Betters}
 use Rattle.semiring.specs.Named.{named_of}
 use Rattle.semiring.specs.declared.Algebra.{Algebra}
-use Rattle.semiring.specs.declared.Named.TheVariants.{Known}
 use Rattle.closure.specs.Table.{entries, with_own}
 use Rattle.closure.specs.Elimination.{closure}
 use Rattle.closure.specs.Ways.{Way, way_word, NoRepeat}
 use Rattle.closure.specs.Tests.{elimination_tests, result_after}
+use Rattle.std.specs.Prelude.{Some as Known}
 
 -- The word of a way over n by n weights.
 abbrev pub word_over : Algebra → ℕ → List ℕ → List ℕ → ℕ

@@ -4,12 +4,12 @@
 use Rattle.std.specs.Prelude.{ℕ, ◌+◌, ◌*◌, ◌≤◌, ◌<◌, min, ◌≡◌, ◌≢◌, List, [], ◌∷◌, get_or}
 use Rattle.semiring.specs.Algebra.{none_word_of, far}
 use Rattle.semiring.specs.Named.{named_of}
-use Rattle.semiring.specs.declared.Named.TheVariants.{Known}
 use Rattle.semiring.specs.declared.Algebra.TheVariants.{Distance}
 use Rattle.closure.specs.Table.{Table, entries, with_own}
 use Rattle.closure.specs.Elimination.{closure}
 use Rattle.closure.specs.Ways.{Way}
 use Rattle.closure.specs.Tests.{elimination_tests, result_after}
+use Rattle.std.specs.Prelude.{Some as Known}
 
 -- No link of the list is the none word.
 unfoldable pub AllLinked : Table → List ℕ → Type 0

@@ -2,10 +2,10 @@
 use Rattle.std.specs.Prelude.{ℕ, ◌<◌, ◌≡◌, ◌≢◌, List}
 use Rattle.semiring.specs.Algebra.{Betters}
 use Rattle.semiring.specs.declared.Algebra.{Algebra}
-use Rattle.semiring.specs.declared.Named.TheVariants.{Known}
 use Rattle.closure.specs.Table.{entries}
 use Rattle.closure.specs.Elimination.{closure}
 use Rattle.closure.specs.Tests.{elimination_tests}
+use Rattle.std.specs.Prelude.{Some as Known}
 
 -- Of two accepted tables: where no link of w betters that of v, no closed entry of w betters that of v. Diagonals don't count.
 abbrev pub Monotone : Type 0

@@ -6,13 +6,13 @@ use Rattle.semiring.specs.Algebra.{none_word_of}
 use Rattle.semiring.specs.Named.{named_of, number_of}
 use Rattle.semiring.specs.declared.Algebra.{Algebra}
 use Rattle.semiring.specs.declared.Algebra.TheVariants.{Reach}
-use Rattle.semiring.specs.declared.Named.TheVariants.{Known}
 use Rattle.closure.specs.Table.{entries}
 use Rattle.closure.specs.Elimination.{closure}
 use Rattle.closure.specs.Tests.{elimination_tests, result_after}
 use Rattle.job_list.specs.Jobs.{count, size, algebra, job_weights, jobs_of}
 use Rattle.systolic.specs.Start.{start_tests}
 use Rattle.homomorphism.specs.Support.{support}
+use Rattle.std.specs.Prelude.{Some as Known}
 
 -- The reach word x is 1 exactly when y, a word of the algebra a, is not none.
 pub record Agree (a : Algebra) (x y : ℕ) : Type 0 where

@@ -1,6 +1,5 @@
 -- Document 01: "The reader gives N, .. Q, 16 sizes and 16,384 weights, unused ones 0." K8: "16 algebras too, unused ones 0".
-use Rattle.std.specs.Prelude.{ℕ, ◌<◌, ◌≡◌, List, length, get_or}
-use Rattle.job_reading.specs.declared.answer.Read.TheVariants.{List as Listed}
+use Rattle.std.specs.Prelude.{ℕ, ◌<◌, ◌≡◌, List, length, get_or, Ok}
 use Rattle.job_reading.specs.Reading.{accepted, reading_of, ReadInto}
 
 -- A buffer of l words that begins with the words read; past them get_or is 0, as every unused word is.
@@ -22,4 +21,4 @@ pub record GivenBy (l m n : ℕ) (text : List ℕ) (order jobs : ℕ) (algebras 
 abbrev pub ReadGiven : Type 0
 ReadGiven =
     (l m n : ℕ) (text : List ℕ) (order jobs : ℕ) (algebras sizes weights : List ℕ)
-    → ReadInto l m n text (Listed order jobs) algebras sizes weights → GivenBy l m n text order jobs algebras sizes weights
+    → ReadInto l m n text (Ok (record { order = order; jobs = jobs })) algebras sizes weights → GivenBy l m n text order jobs algebras sizes weights

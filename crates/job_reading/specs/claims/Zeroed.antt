@@ -1,7 +1,6 @@
 -- Document 01, row Text: a refusal "zeroes both buffers at any length". K8: "a refusal zeroes them as well, so demand 1's buffers are three".
-use Rattle.std.specs.Prelude.{ℕ, ◌≡◌, List, replicate}
+use Rattle.std.specs.Prelude.{ℕ, ◌≡◌, List, replicate, Err}
 use Rattle.job_reading.specs.declared.answer.Refusal.{Refusal as Why}
-use Rattle.job_reading.specs.declared.answer.Read.TheVariants.{Refused}
 use Rattle.job_reading.specs.Reading.{Refusal, refused, reading_of, algebras_after, sizes_after, weights_after, ReadInto}
 
 -- Three buffers of zeros, of the lengths that were lent.
@@ -16,5 +15,5 @@ pub record Zeroed : Type 0 where
       (l m n : ℕ) (text : List ℕ) (why : Refusal) → reading_of l m n text ≡ refused why
       → AllZero l m n (algebras_after l m n text) (sizes_after l m n text) (weights_after l m n text)
   pub left :
-      (l m n : ℕ) (text : List ℕ) (why : Why) (algebras sizes weights : List ℕ) → ReadInto l m n text (Refused why) algebras sizes weights
+      (l m n : ℕ) (text : List ℕ) (why : Why) (algebras sizes weights : List ℕ) → ReadInto l m n text (Err why) algebras sizes weights
       → AllZero l m n algebras sizes weights

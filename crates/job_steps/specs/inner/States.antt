@@ -1,19 +1,17 @@
 -- The code's state and buffers for what has been read.
-use Rattle.std.specs.Prelude.{ℕ, min, ◌≡◌, List, [], ◌++◌, map, length}
+use Rattle.std.specs.Prelude.{ℕ, min, ◌≡◌, List, [], ◌++◌, map, length, Result, Ok, Err}
 use Rattle.refusals.specs.Reason.{reason_number}
-use Rattle.refusals.specs.declared.Tested.{Tested}
+use Rattle.refusals.specs.declared.Reason.{Reason}
 use Rattle.job_form.specs.declared.tokens.Token.{Token}
 use Rattle.job_reading.specs.declared.state.Due.{Due}
 use Rattle.job_reading.specs.declared.state.State.{State}
-use Rattle.job_reading.specs.declared.state.Next.{Next}
-use Rattle.job_reading.specs.declared.state.Next.TheVariants.{On, Stop}
 use Rattle.job_form.specs.declared.rows.Tally.{Tally}
-use Rattle.job_reading.specs.declared.answer.Read.{Read}
+use Rattle.job_reading.specs.declared.answer.List.{List as Listed}
+use Rattle.job_reading.specs.declared.answer.Refusal.{Refusal as Why}
 use Rattle.job_reading.specs.Steps.{Progress, by_due, Step, go, stop}
 use Rattle.job_form.specs.Words.{word_of}
-use Rattle.job_reading.specs.Reading.{Reading, refused, accepted, refusal, length_tests, algebras_in, sizes_in, weights_in, Answer, turned, given, answer_of, answered}
+use Rattle.job_reading.specs.Reading.{Reading, refused, accepted, refusal, algebras_in, sizes_in, weights_in, Answer, turned, given, answer_of, answered}
 use Rattle.job_form.specs.Buffer.{padded}
-use Rattle.job_steps.specs.inner.TestedBy.{TestedBy}
 use Rattle.job_form.specs.inner.Tallies.{no_tally, tallied}
 
 -- A buffer of n words that was cleared.
@@ -25,10 +23,6 @@ pub record AllCleared (l m n : ℕ) (algebras sizes weights : List ℕ) : Type 0
   pub algebras_zero : Cleared l algebras
   pub sizes_zero : Cleared m sizes
   pub weights_zero : Cleared n weights
-
--- What the tests before any line give, for buffers of l, m and n words.
-pub record LengthsTested (l m n bytes : ℕ) (found : Tested) : Type 0 where
-  pub tested : TestedBy (length_tests l m n bytes) found
 
 -- The state for what has been read into a buffer of n weights.
 abbrev pub state_of : ℕ → Progress → State
@@ -47,9 +41,9 @@ pub data Led : Type 0 where
   onward : State → Led
   back : ℕ → Led
 
-abbrev pub led_by : Next → Led
-led_by (On s) = onward s
-led_by (Stop reason) = back (reason_number reason)
+abbrev pub led_by : Result State Reason → Led
+led_by (Ok s) = onward s
+led_by (Err reason) = back (reason_number reason)
 
 abbrev pub next_of : ℕ → Step → Led
 next_of n (go p) = onward (state_of n p)
@@ -73,7 +67,7 @@ pub record Kept (p : Progress) (s : State) (algebras sizes weights : List ℕ) :
   pub weights_hold : weights ≡ padded (length weights) p.weights
 
 -- The answer and the buffers after a step: of a refusal only the answer.
-abbrev pub Went : Step → Next → List ℕ → List ℕ → List ℕ → Type 0
+abbrev pub Went : Step → Result State Reason → List ℕ → List ℕ → List ℕ → Type 0
 Went (go p) r algebras sizes weights = (s : State) × ((led_by r ≡ onward s) × Kept p s algebras sizes weights)
 Went (stop k) r algebras sizes weights = led_by r ≡ back k
 
@@ -87,7 +81,7 @@ ended_by d s line =
     let early : Answer = turned (refusal 17 line) in
     by_due early early early early (given s.order s.jobs) d
 
-pub record Ended (s : State) (line : ℕ) (r : Read) : Type 0 where
+pub record Ended (s : State) (line : ℕ) (r : Result Listed Why) : Type 0 where
   pub outcome : answered r ≡ ended_by s.due s line
 
 -- The buffers of a text whose lines have been read: of a refusal they are of no account.
@@ -97,12 +91,12 @@ Filled (accepted order bs ss ws) algebras sizes weights =
     (algebras ≡ padded (length algebras) bs) × (sizes ≡ padded (length sizes) ss) × (weights ≡ padded (length weights) ws)
 
 -- What the walk over the lines answers and leaves.
-pub record Followed (reading : Reading) (r : Read) (algebras sizes weights : List ℕ) : Type 0 where
+pub record Followed (reading : Reading) (r : Result Listed Why) (algebras sizes weights : List ℕ) : Type 0 where
   pub outcome : answered r ≡ answer_of reading
   pub memory : Filled reading algebras sizes weights
 
 -- What is owed for a reading into buffers of l, m and n words.
-pub record Owed (l m n : ℕ) (reading : Reading) (r : Read) (algebras sizes weights : List ℕ) : Type 0 where
+pub record Owed (l m n : ℕ) (reading : Reading) (r : Result Listed Why) (algebras sizes weights : List ℕ) : Type 0 where
   pub outcome : answered r ≡ answer_of reading
   pub algebras_left : algebras ≡ padded l (algebras_in reading)
   pub sizes_left : sizes ≡ padded m (sizes_in reading)

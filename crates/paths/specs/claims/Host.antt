@@ -4,7 +4,7 @@ use Rattle.refusals.specs.Conditions.{Conditions, otherwise, test, Exactly, Outs
 use Rattle.semiring.specs.Named.{named_of}
 use Rattle.semiring.specs.Words.{ReachAbove}
 use Rattle.semiring.specs.declared.Algebra.{Algebra}
-use Rattle.semiring.specs.declared.Named.TheVariants.{Known}
+use Rattle.std.specs.Prelude.{Some as Known}
 use Rattle.closure.specs.claims.Demand.{Best}
 use Rattle.byte_tables.specs.Bytes.{decoded, encoded}
 use Rattle.paths.specs.Bytes.{host_tests, host_after}

@@ -5,10 +5,10 @@ use Rattle.semiring.specs.Algebra.{Word}
 use Rattle.semiring.specs.Named.{named_of}
 use Rattle.semiring.specs.declared.Algebra.{Algebra}
 use Rattle.semiring.specs.declared.Algebra.TheVariants.{Reach, Distance, Steepest}
-use Rattle.semiring.specs.declared.Named.TheVariants.{Known}
 use Rattle.closure.specs.Table.{entries}
 use Rattle.ranges.specs.Between.{Between, TableBetween}
 use Rattle.ranges.specs.Given.{RangeGiven}
+use Rattle.std.specs.Prelude.{Some as Known}
 
 -- By number: "in reach the best word is the larger", in the other two the smaller.
 abbrev pub Within : Algebra → ℕ → ℕ → ℕ → Type 0

@@ -4,7 +4,6 @@ use Rattle.std.specs.Prelude.{ℕ, ◌<◌, ◌*◌, ◌≡◌, List, length}
 use Rattle.semiring.specs.Algebra.{Betters}
 use Rattle.semiring.specs.Named.{named_of}
 use Rattle.semiring.specs.declared.Algebra.{Algebra}
-use Rattle.semiring.specs.declared.Named.TheVariants.{Known}
 use Rattle.closure.specs.Table.{entries}
 use Rattle.closure.specs.Elimination.{closure}
 use Rattle.closure.specs.Ways.{Way, NoRepeat}
@@ -12,6 +11,7 @@ use Rattle.closure.specs.Tests.{elimination_tests}
 use Rattle.closure.specs.claims.Demand.{word_over}
 use Rattle.ranges.specs.Between.{Between, TableBetween}
 use Rattle.ranges.specs.Given.{RangeGiven}
+use Rattle.std.specs.Prelude.{Some as Known}
 
 -- What two closed tables r and s say of a hall whose links are known between two tables.
 pub record Ranged (a : Algebra) (n : ℕ) (best worst r s : List ℕ) : Type 0 where

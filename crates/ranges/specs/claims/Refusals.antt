@@ -3,10 +3,10 @@ use Rattle.std.specs.Prelude.{ℕ, ◌≡◌, List}
 use Rattle.refusals.specs.Conditions.{Conditions, otherwise, test, followed, Exactly, Words16}
 use Rattle.semiring.specs.Named.{named_of}
 use Rattle.semiring.specs.declared.Algebra.{Algebra}
-use Rattle.semiring.specs.declared.Named.TheVariants.{Known}
 use Rattle.closure.specs.claims.Refusals.{elimination_conditions}
 use Rattle.ranges.specs.Between.{Inverted}
 use Rattle.ranges.specs.Given.{RangeGiven}
+use Rattle.std.specs.Prelude.{Some as Known}
 
 -- "All checks of the elimination are made for the best table, then for the worst. A link whose worst word betters its best one is 24,
 -- tested last"

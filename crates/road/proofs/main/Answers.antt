@@ -1,6 +1,7 @@
 -- `main` hands on what it read, with the room that it read it into.
+use Rattle.std.proofs.Common.{rules}
 use Rattle.road.proofs.Parts.{in-room}
 use Rattle.road.proofs.main.Goals as goal
 
 pub print_input-requires : goal.print_input-requires
-print_input-requires c = search in-room
+print_input-requires c = in-room _ c.in-Ok.ensures.read (search rules) (search rules)

@@ -1,5 +1,5 @@
 -- What a line says, and what the parts after its first say.
-use Rattle.std.specs.Prelude.{ℕ, ◌<◌, ◌≤◌, ◌≡◌, List, Bool, true, false, length, get_or, take}
+use Rattle.std.specs.Prelude.{ℕ, ◌<◌, ◌≤◌, ◌≡◌, List, Bool, true, false, length, get_or, take, Option, None, Some}
 use Prim.Native.Char.{code}
 use Rattle.text.specs.inner.Scan.{Until}
 use Rattle.road_form.specs.declared.forms.Line.{Line}
@@ -21,6 +21,11 @@ pub record LineSaid (text : List ℕ) (r : Said) : Type 0 where
 pub record UnknownSaid (text : List ℕ) (r : Said) : Type 0 where
   pub ends : Until (code "\n") 0 text r.end
   pub line : r.line ≡ Unknown
+
+-- An arc's line, or that the first line is none of a known form.
+pub record ArcSaid (text : List ℕ) (r : Option Said) : Type 0 where
+  pub some : (said : Said) → r ≡ Some said → LineSaid text said
+  pub none : r ≡ None → (said : Said) → UnknownSaid text said → LineSaid text said
 
 -- Whether the first line ends at a place that is not behind its end.
 pub record EndsAt (text : List ℕ) (at : ℕ) (r : Bool) : Type 0 where

@@ -2,5 +2,5 @@
 use Rattle.road_sheet.proofs.Closing.{never_refused}
 use Rattle.road_sheet.proofs.print_closed.Goals as goal
 
-pub returns-in-Refused : goal.returns-in-Refused
-returns-in-Refused c = absurd (never_refused c.requires c.eliminate-answer.ensures _ c.in-Refused.is)
+pub returns-in_default : goal.returns-in_default
+returns-in_default c = absurd (never_refused c.requires c.eliminate.ensures _ c.in_default.is)

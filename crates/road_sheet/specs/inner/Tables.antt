@@ -1,20 +1,10 @@
 -- The tables that are closed and printed.
-use Rattle.std.specs.Prelude.{ℕ, ◌*◌, ◌<◌, ◌≤◌, ◌≡◌, List, length, get_or}
+use Rattle.std.specs.Prelude.{ℕ, ◌*◌, ◌≤◌, ◌≡◌, List, length, get_or}
 
 -- A table of n points, at most 128.
 pub record Square (n : ℕ) (table : List ℕ) : Type 0 where
   pub most : n ≤ 128
   pub words : length table ≡ n * n
-
--- A row of it, and an entry of a row.
-pub record Row (n : ℕ) (table : List ℕ) (i : ℕ) : Type 0 where
-  pub square : Square n table
-  pub row : i < n
-
-pub record Entry (n : ℕ) (table : List ℕ) (i j : ℕ) : Type 0 where
-  pub square : Square n table
-  pub row : i < n
-  pub column : j < n
 
 -- What the elimination's tests ask of a table and of the room for the closed one.
 pub record ToClose (n : ℕ) (table closed : List ℕ) : Type 0 where

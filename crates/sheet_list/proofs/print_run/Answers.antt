@@ -11,5 +11,6 @@ returns-in_default-run c =
 
 pub returns : goal.returns
 returns c =
-    sheet_printed (c.requires.list_accepted, c.requires.run_memory) c.start.ensures c.clear.ensures c.run.ensures c.in-Made.is
-    c.put_jobs-at.ensures c.put_ticks.ensures
+    let first = rw c.from.ensures at c.put_jobs.ensures in
+    let rest = rw c.from-2.ensures at c.put_ticks.ensures in
+    sheet_printed (c.requires.list_accepted, c.requires.run_memory) c.start.ensures c.clear.ensures c.run.ensures c.in-Ok-run.is first rest

@@ -4,6 +4,7 @@ use Rattle.semiring.specs.declared.Algebra.{Algebra}
 use Rattle.job_list.specs.Fits.{ListFits}
 use Rattle.job_list.specs.Jobs.{Jobs, words_of, place, jobs_of}
 use Rattle.text.specs.Joined.{joined}
+use Rattle.sheet_ticks.specs.declared.tick_lines.Finished.{Finished}
 use Rattle.sheet_ticks.specs.declared.tick_lines.Leaving.{Leaving}
 use Rattle.sheet_form.specs.Lines.{out_line, row_lines}
 
@@ -30,3 +31,10 @@ unfoldable pub tick_lines : List ℕ → ℕ → List ℕ → List ℕ → ℕ �
 tick_lines algebras order sizes results t =
     let J : Jobs = jobs_of algebras order sizes [] in
     joined order (row_lines J (λ q i k. get_or results (place J q i k) 0) t)
+
+-- Both of jobs that were run.
+abbrev pub Ready : Finished → Type 0
+Ready f = Printable f.algebras.now f.order f.sizes.now f.results.now
+
+abbrev pub lines_on : Finished → ℕ → List ℕ
+lines_on f = tick_lines f.algebras.now f.order f.sizes.now f.results.now

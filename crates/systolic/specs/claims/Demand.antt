@@ -1,6 +1,5 @@
 -- Demand 3, one claim over any list of runs of an array of order N started on Q jobs.
 use Rattle.std.specs.Prelude.{ℕ, ◌+◌, ◌-◌, ◌*◌, ◌<◌, min, ◌≡◌, List, [], ◌∷◌, map, cond, not, length, get_or, replicate, eqb, ltb}
-use Rattle.semiring.specs.declared.Named.TheVariants.{Known}
 use Rattle.semiring.specs.Named.{named_of}
 use Rattle.closure.specs.Elimination.{closure}
 use Rattle.refusals.specs.Tests.{first}
@@ -9,6 +8,7 @@ use Rattle.systolic.specs.Tick.{leaves, ticks}
 use Rattle.systolic.specs.State.{state_words, order_of, count_of, tick_of, planes_of, scratch_length}
 use Rattle.systolic.specs.Start.{start_tests, state_after_start}
 use Rattle.systolic.specs.Run.{ran}
+use Rattle.std.specs.Prelude.{Some as Known}
 
 -- "allowance, scratch length and scratch words are each run's own"
 pub record Call : Type 0 where

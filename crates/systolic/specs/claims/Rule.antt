@@ -3,7 +3,7 @@ use Rattle.std.specs.Prelude.{ℕ, suc, ◌+◌, ◌-◌, ◌*◌, ◌≤◌, �
 use Rattle.semiring.specs.Algebra.{none_word_of, own_of, sum_of, product_of}
 use Rattle.job_list.specs.Jobs.{Jobs, count, size, algebra, job_weights}
 use Rattle.systolic.specs.Feeder.{fed}
-use Rattle.systolic.specs.Cell.{Planes, cell_of, aIn, bIn, cIn, new_c, stepped}
+use Rattle.systolic.specs.Cell.{Planes, cell_of, aIn, bIn, cIn, stepped}
 use Rattle.systolic.specs.Tick.{cell_after}
 
 -- "a job is padded to N with none off the diagonal, and the whole diagonal, padded or not, is the own word"

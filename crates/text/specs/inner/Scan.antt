@@ -1,7 +1,8 @@
 -- What the walks over bytes find: places of pieces and parts.
-use Rattle.std.specs.Prelude.{ℕ, ◌+◌, ◌-◌, ◌<◌, ◌≤◌, max, ◌≡◌, List, [], ◌∷◌, map, length, get_or, take, drop}
+use Rattle.std.specs.Prelude.{ℕ, ◌+◌, ◌-◌, ◌<◌, ◌≤◌, max, ◌≡◌, List, [], ◌∷◌, map, length, get_or, take, drop, Option, None, Some}
 use Prim.Native.Char.{code}
 use Rattle.text.specs.Pieces.{bytes_of, cut, placed}
+use Rattle.text.specs.declared.parts.Part.{Part}
 
 abbrev pub between : ℕ → ℕ → List ℕ → List ℕ
 between start end l = take (end - start) (drop start l)
@@ -35,3 +36,8 @@ pub record Found (from : ℕ) (line : List ℕ) (start end : ℕ) : Type 0 where
   pub none : end ≤ start → placed from (drop from line) ≡ []
   pub none_start : end ≤ start → start ≡ max from (length line)
   pub none_end : end ≤ start → end ≡ max from (length line)
+
+-- Where the first part stands, which has bytes; None where there is none.
+abbrev pub NextPart : ℕ → List ℕ → Option Part → Type 0
+NextPart from line (Some p) = Found from line p.start p.end × (p.start < p.end)
+NextPart from line None = Found from line (max from (length line)) (max from (length line))

@@ -3,11 +3,11 @@ use Rattle.std.specs.Prelude.{ℕ, ◌≤◌, ◌≡◌, List, [], ◌∷◌, ta
 use Rattle.semiring.specs.Algebra.{Betters}
 use Rattle.semiring.specs.Named.{named_of}
 use Rattle.semiring.specs.declared.Algebra.{Algebra}
-use Rattle.semiring.specs.declared.Named.TheVariants.{Known}
 use Rattle.closure.specs.Table.{entries}
 use Rattle.closure.specs.Ways.{Way}
 use Rattle.closure.specs.claims.Demand.{word_over}
 use Rattle.ways.specs.Given.{Attains, WayGiven, WayGivenHost}
+use Rattle.std.specs.Prelude.{Some as Known}
 
 -- The first `count` words are a way of the closed entry's word, which no way betters; the words after them are as they were.
 pub record ReadOff (a : Algebra) (n : ℕ) (w c : List ℕ) (from to count : ℕ) (list list' : List ℕ) : Type 0 where

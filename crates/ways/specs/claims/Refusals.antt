@@ -4,11 +4,11 @@ use Rattle.refusals.specs.Conditions.{Conditions, otherwise, test, followed, Exa
 use Rattle.semiring.specs.Algebra.{none_word_of}
 use Rattle.semiring.specs.Named.{named_of}
 use Rattle.semiring.specs.declared.Algebra.{Algebra}
-use Rattle.semiring.specs.declared.Named.TheVariants.{Known}
 use Rattle.closure.specs.Table.{entries}
 use Rattle.closure.specs.Elimination.{eliminated}
 use Rattle.closure.specs.claims.Refusals.{elimination_conditions}
 use Rattle.ways.specs.Tests.{way_tests}
+use Rattle.std.specs.Prelude.{Some as Known}
 
 -- "a list memory not n words long, a point outside the table, or a closed table that isn't the elimination's, is 19; an entry that is
 -- none is 20, tested last"

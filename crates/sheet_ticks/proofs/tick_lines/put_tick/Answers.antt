@@ -6,11 +6,11 @@ use Rattle.sheet_ticks.proofs.tick_lines.put_tick.Goals as goal
 pub returns-then-t-span : goal.returns-then-t-span
 returns-then-t-span c = search tick_early
 
-pub returns-then-sizes-job : goal.returns-then-sizes-job
-returns-then-sizes-job c = search tick_late
+pub returns-then-jobs-job : goal.returns-then-jobs-job
+returns-then-jobs-job c = search tick_late
 
 pub slice_bounds-put_rows-end : goal.slice_bounds-put_rows-end
-slice_bounds-put_rows-end c = end_within c.requires c.if-sizes-job.false c.words_before-start.ensures.exact
+slice_bounds-put_rows-end c = rw c.from-size.ensures (end_within c.requires c.if-jobs-job.false c.words_before-start.ensures.exact)
 
 pub returns : goal.returns
-returns c = search tick_printed
+returns c = let p = rw c.from-size.ensures at c.put_rows.ensures in search tick_printed

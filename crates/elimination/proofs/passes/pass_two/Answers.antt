@@ -1,0 +1,9 @@
+use Rattle.elimination.proofs.Rows.{two_rows}
+use Rattle.elimination.proofs.Through.{pass_two_done}
+use Rattle.elimination.proofs.passes.pass_two.Goals as goal
+
+pub slice_bounds-copy-end-2 : goal.slice_bounds-copy-end-2
+slice_bounds-copy-end-2 c = search two_rows
+
+pub returns : goal.returns
+returns c = search pass_two_done

@@ -1,2 +1,0 @@
--- What the contracts of inner functions say.
-pub mod Told

@@ -1,5 +1,0 @@
--- The digits left to print fall by one at each call.
-use Rattle.text.proofs.put_numeral.+put_digits.Given as goal
-
-abbrev pub decreases-put_digits : goal.decreases-put_digits
-decreases-put_digits l = l.most
