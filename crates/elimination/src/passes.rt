@@ -19,26 +19,29 @@ fn rows(a: Algebra, n: usize, k: usize, via: &[u16], table: &mut [u16])
     }
 }
 
-// How many pairs of rows `rows_two` walks two at a time. Compiled, two rows in one loop go in steps of eight words, one row in steps of
-// sixteen and of four: the first is faster where fewer than four words are left over.
-fn pairs_of(n: usize) -> usize
-    ensures { 2 * result ≤ n }
-{
-    if n % 8 < 4 { n / 2 } else { 0 }
-}
-
-// Every row through points k and k + 1, the first ones two rows at a time.
+// Every row through points k and k + 1.
 fn rows_two(a: Algebra, n: usize, k: usize, via: &[u16], next: &[u16], table: &mut [u16])
     requires { Square n table.old × (k + 1 < n) × (n ≤ length via.now) × (n ≤ length next.now) }
     ensures { RowsRelaxedTwice a n k via.now next.now table.old table.new }
 {
-    let pairs = pairs_of(n);
-    for pair in 0..pairs {
+    for i in 0..n {
+        let at = i * n;
+        let end = at + n;
+        relax_two(a, k, via, next, &mut table[at..end]);
+    }
+}
+
+// The same, two rows at a time.
+fn row_pairs(a: Algebra, n: usize, k: usize, via: &[u16], next: &[u16], table: &mut [u16])
+    requires { Square n table.old × (k + 1 < n) × (n ≤ length via.now) × (n ≤ length next.now) }
+    ensures { RowsRelaxedTwice a n k via.now next.now table.old table.new }
+{
+    for pair in 0..n / 2 {
         let at = 2 * pair * n;
         let end = at + 2 * n;
         relax_pair(a, n, k, via, next, &mut table[at..end]);
     }
-    for i in 2 * pairs..n {
+    for i in n / 2 * 2..n {
         let at = i * n;
         let end = at + n;
         relax_two(a, k, via, next, &mut table[at..end]);
@@ -67,7 +70,13 @@ fn pass_two(a: Algebra, n: usize, k: usize, via: &mut [u16], next: &mut [u16], t
     copy(&table[at..middle], via);
     copy(&table[middle..end], next);
     relax(a, k, via, &mut next[..n]);
-    rows_two(a, n, k, via, next, table);
+    // Compiled, two rows in one loop go in steps of eight words, one row in steps of sixteen and of four: the first is faster where fewer
+    // than four words are left over.
+    if n % 8 < 4 {
+        row_pairs(a, n, k, via, next, table);
+    } else {
+        rows_two(a, n, k, via, next, table);
+    }
 }
 
 // All passes.
