@@ -12,9 +12,15 @@ fn verdict(passed: bool) -> &'static str
     if passed { "right\n" } else { "wrong\n" }
 }
 
-pub fn tell(rt: &HostRuntime, kind: &str, card: &str, passed: bool) -> io::Result<()> {
-    let verdict = verdict(passed);
-    print!(rt; "{kind}{card}: {verdict}")
+pub fn tell(rt: &HostRuntime, card: &str, passed: bool) -> io::Result<()> {
+    print!(rt; "{card}: ")?;
+    print!(rt; "{}", verdict(passed))
+}
+
+// Of a card that expects what is wrong, by the same words: one that comes out right shows against the stored output.
+pub fn tell_wrong(rt: &HostRuntime, card: &str, passed: bool) -> io::Result<()> {
+    print!(rt; "must be wrong: ")?;
+    tell(rt, card, passed)
 }
 
 // Whether the page's first bytes are the text.

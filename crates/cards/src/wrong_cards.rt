@@ -4,7 +4,9 @@ use crate::listing_card::prints;
 use crate::machine::{Jobs, Machine, starts};
 use crate::scratch_cards::lends;
 use crate::table_cards::{closes_bytes, closes_over};
+use crate::verdict::tell_wrong;
 use crate::way_cards::gives;
+use std::io;
 
 const CELL: Jobs<'static> = Jobs {
     algebras: &[1],
@@ -32,28 +34,27 @@ fn cell(tick: u16, ticks: u16, expected: u16) -> bool {
     array.makes(&CELL, 9, ticks, &[expected])
 }
 
-pub fn all() -> [(&'static str, bool); 16] {
+pub fn tell_all(rt: &HostRuntime) -> io::Result<()> {
+    tell_wrong(rt, "a table's word", table(0, 0))?;
+    tell_wrong(rt, "a refused table", table(2, 1))?;
+    // the one word of a table of reach is 1, low byte first
+    tell_wrong(rt, "a table's bytes", closes_bytes(0, 1, [0, 0], [0, 1]))?;
+    tell_wrong(rt, "a start's number", start(Err(6)))?;
+    tell_wrong(rt, "a run's ticks", cell(0, 3, 0))?;
+    tell_wrong(rt, "a run's result", cell(0, 4, 9))?;
+    tell_wrong(rt, "a refused run", cell(5, 0, 9))?;
+    tell_wrong(rt, "a run's state", leaves(at_tick(5), 0, at_tick(6), 0))?;
+    tell_wrong(rt, "a run's scratch", leaves(at_tick(5), 0, at_tick(5), 9))?;
+    tell_wrong(rt, "a scratch of 2N words more", lends::<12>(Ok(7), 0))?;
+    tell_wrong(rt, "a scratch not cleared", lends::<6>(Ok(7), 9))?;
+    tell_wrong(rt, "a sheet's byte", prints(b"", b"(refused 17 1)\n"))?;
+    tell_wrong(rt, "a sheet's length", prints(b"", b"(refused 17 0)"))?;
+    tell_wrong(
+        rt,
+        "a way's points",
+        gives(0, 3, Ok(3), [0, 3, 3, 9], [0, 1, 2, 9]),
+    )?;
     let ways = [2, 9, 9, 9];
-    [
-        ("a table's word", table(0, 0)),
-        ("a refused table", table(2, 1)),
-        // the one word of a table of reach is 1, low byte first
-        ("a table's bytes", closes_bytes(0, 1, [0, 0], [0, 1])),
-        ("a start's number", start(Err(6))),
-        ("a run's ticks", cell(0, 3, 0)),
-        ("a run's result", cell(0, 4, 9)),
-        ("a refused run", cell(5, 0, 9)),
-        ("a run's state", leaves(at_tick(5), 0, at_tick(6), 0)),
-        ("a run's scratch", leaves(at_tick(5), 0, at_tick(5), 9)),
-        ("a scratch of 2N words more", lends::<12>(Ok(7), 0)),
-        ("a scratch not cleared", lends::<6>(Ok(7), 9)),
-        ("a sheet's byte", prints(b"", b"(refused 17 1)\n")),
-        ("a sheet's length", prints(b"", b"(refused 17 0)")),
-        (
-            "a way's points",
-            gives(0, 3, Ok(3), [0, 3, 3, 9], [0, 1, 2, 9]),
-        ),
-        ("a way's length", gives(2, 2, Ok(2), ways, ways)),
-        ("a way's number", gives(3, 0, Err(19), [9; 4], [9; 4])),
-    ]
+    tell_wrong(rt, "a way's length", gives(2, 2, Ok(2), ways, ways))?;
+    tell_wrong(rt, "a way's number", gives(3, 0, Err(19), [9; 4], [9; 4]))
 }
