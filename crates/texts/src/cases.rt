@@ -18,6 +18,10 @@ fn buffer(rt: &HostRuntime, name: &str, words: &[u16]) -> io::Result<()> {
     Ok(())
 }
 
+fn number(rt: &HostRuntime, n: u32) -> io::Result<()> {
+    print!(rt; " {n}")
+}
+
 // One text into three buffers that hold other words: what was read, and what the buffers then hold.
 pub fn one<const A: usize, const S: usize, const W: usize>(
     rt: &HostRuntime,
@@ -34,8 +38,17 @@ pub fn one<const A: usize, const S: usize, const W: usize>(
     let answer = read(text, &mut algebras, &mut sizes, &mut weights);
     rt.write_all(label)?;
     match answer {
-        Ok(list) => print!(rt; ": list of order {} jobs {}", list.order, list.jobs)?,
-        Err(why) => print!(rt; ": refused {} {}", u32::from(why.reason), why.line)?,
+        Ok(list) => {
+            print!(rt; ": list of order")?;
+            number(rt, u32::from(list.order))?;
+            print!(rt; " jobs")?;
+            number(rt, u32::from(list.jobs))?;
+        }
+        Err(why) => {
+            print!(rt; ": refused")?;
+            number(rt, u32::from(why.reason))?;
+            number(rt, why.line)?;
+        }
     }
     buffer(rt, "algebras", &algebras)?;
     buffer(rt, "sizes", &sizes)?;
