@@ -1,5 +1,6 @@
 // Card B11: the borders of each number, and runs that make no tick.
 use crate::machine::{Jobs, Machine, starts};
+use memory::same_words;
 use paths::eliminate;
 
 fn sizes() -> bool {
@@ -80,7 +81,9 @@ pub fn leaves(mut state: [u16; 16], allowance: u16, after: [u16; 16], word: u16)
         scratch: &mut scratch,
         results: &mut [9, 8, 7, 6],
     };
-    array.makes(&PAIR, allowance, 0, &[9, 8, 7, 6]) && state == after && scratch == [word; 4]
+    array.makes(&PAIR, allowance, 0, &[9, 8, 7, 6])
+        && same_words(&state, &after)
+        && same_words(&scratch, &[word; 4])
 }
 
 fn unchanged(state: [u16; 16], allowance: u16) -> bool {

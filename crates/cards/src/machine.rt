@@ -1,5 +1,6 @@
 // An array with the memory that it is lent. Refusals are told by their numbers.
 use array::run;
+use memory::same_words;
 use starting::start;
 
 // A list of jobs and the order of the array that runs it.
@@ -45,6 +46,6 @@ impl Machine<'_> {
 
     // A run that makes the given ticks and leaves the given results.
     pub fn makes(&mut self, jobs: &Jobs, allowance: u16, ticks: u16, results: &[u16]) -> bool {
-        self.run(jobs, allowance) == Ok(ticks) && *self.results == *results
+        self.run(jobs, allowance) == Ok(ticks) && same_words(self.results, results)
     }
 }

@@ -2,6 +2,7 @@
 ghost use Rattle.std.specs.Prelude.{◌≤◌};
 
 use crate::machine::{Jobs, Machine};
+use memory::same_words;
 
 // A run of at most seven ticks on an array of order 3 with a scratch of C nines, which leaves it full of the given word.
 pub fn lends<const C: usize>(answer: Result<u16, u32>, word: u16) -> bool
@@ -19,7 +20,9 @@ pub fn lends<const C: usize>(answer: Result<u16, u32>, word: u16) -> bool
         scratch: &mut scratch,
         results: &mut [9; 9],
     };
-    array.start(&jobs) == Ok(()) && array.run(&jobs, 7) == answer && scratch == [word; C]
+    array.start(&jobs) == Ok(())
+        && array.run(&jobs, 7) == answer
+        && same_words(&scratch, &[word; C])
 }
 
 // Two lines; a word less, a word more, and document 01's 2N².

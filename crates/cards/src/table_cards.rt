@@ -1,8 +1,10 @@
 // Cards of the elimination.
 ghost use Rattle.std.specs.Prelude.{◌≤◌};
 
+use memory::same_words;
 use paths::eliminate;
 use raudvisk::paths_eliminate;
+use text::equal;
 
 // A table of N words that is closed, over the words of `res`, into another.
 pub fn closes_over<const N: usize>(
@@ -14,7 +16,7 @@ pub fn closes_over<const N: usize>(
 ) -> bool
     requires { N ≤ 9 }
 {
-    eliminate(algebra, size, &links, &mut res).is_ok() && res == closed
+    eliminate(algebra, size, &links, &mut res).is_ok() && same_words(&res, &closed)
 }
 
 fn closes(algebra: u32, links: [u16; 9], closed: [u16; 9]) -> bool {
@@ -31,7 +33,7 @@ pub fn closes_bytes<const N: usize>(
     requires { N ≤ 18 }
 {
     let mut result = [9; N];
-    paths_eliminate(algebra, size, &links, &mut result) == 0 && result == closed
+    paths_eliminate(algebra, size, &links, &mut result) == 0 && equal(&result, &closed)
 }
 
 pub fn one_point() -> bool {
