@@ -32,14 +32,12 @@ numeral_more (suc m) n h k = let e : suc m - 1 ≡ m = omega arith in rw (le-ltb
 pub digits_none : (p : Page) (m n : ℕ) → m < 1 → Printed p (numeral m n) p
 digits_none p m n e = printed_as (printed_none p) (sym (numeral_none m n (omega arith)))
 
-module _ {p q r : Page} {m n d : ℕ} (some : 1 ≤ m) (last : d ≡ 48 + n % 10) (put : Printed q (d ∷ []) r) where
-  pub digits_one : n < 10 → q ≡ p → Printed p (numeral m n) r
-  digits_one small is_p =
-      let one : d ≡ 48 + n = omega arith in
-      printed_as (rw is_p at put) (rw (one, numeral_small m n some small))
+pub digits_one : {p q : Page} {m n d : ℕ} → 1 ≤ m → n < 10 → d ≡ 48 + n → Printed p (d ∷ []) q → Printed p (numeral m n) q
+digits_one {p} {q} {m} {n} some small last put = printed_as put (rw (last, numeral_small m n some small))
 
-  pub digits_more : {q' : Page} → 10 ≤ n → Printed p (numeral (m - 1) (n / 10)) q' → q ≡ q' → Printed p (numeral m n) r
-  digits_more more front is_q = printed_as (front then (rw is_q at put)) (rw (last, numeral_more m n some more))
+pub digits_more : {p q r : Page} {m n d : ℕ} → 1 ≤ m → 10 ≤ n → Printed p (numeral (m - 1) (n / 10)) q → d ≡ 48 + n % 10
+    → Printed q (d ∷ []) r → Printed p (numeral m n) r
+digits_more {p} {q} {r} {m} {n} some more front last put = printed_as (front then put) (rw (last, numeral_more m n some more))
 
 -- ten to the power of m
 abbrev tens : ℕ → ℕ

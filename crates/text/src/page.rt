@@ -29,8 +29,14 @@ impl<'a> Page<'a> {
     pub fn text(&mut self, text: &[u8])
         ensures { Printed self.old text.now self.new }
     {
+        let mut at = self.at;
+        let bytes = &mut *self.bytes;
         for byte in text {
-            self.byte(*byte);
+            if at < bytes.len() {
+                bytes[at] = *byte;
+                at += 1;
+            }
         }
+        self.at = at;
     }
 }

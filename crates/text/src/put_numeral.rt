@@ -21,10 +21,11 @@ impl Page<'_> {
         if most < 1 {
             return;
         }
-        let others = n >= 10;
-        if others {
-            self.digits(most - 1, n / 10);
+        if n < 10 {
+            self.byte(digit(n));
+            return;
         }
+        self.digits(most - 1, n / 10);
         self.byte(digit(n % 10));
     }
 
