@@ -8,7 +8,7 @@ use mathlib.Core.List.{List, [], ◌∷◌, ◌++◌}
 use lib.ListN.{length, get_or, length-append, get_or-append}
 use lib.Seq.{get_or-append-add}
 use borrow.Author.Tests.{lt-ltb, le-ltb}
-use Rattle.text.specs.Numeral.{decimal, numeral}
+use Rattle.text.specs.Numeral.{decimal, numeral, shown}
 use Rattle.text.specs.declared.page.Page.{Page}
 use Rattle.text.specs.inner.Printed.{Printed}
 use Rattle.text.specs.claims.Numerals.{NumeralOf, Numerals}
@@ -34,6 +34,9 @@ digits_none p m n e = printed_as (printed_none p) (sym (numeral_none m n (omega 
 
 pub digits_one : {p q : Page} {m n d : ℕ} → 1 ≤ m → n < 10 → d ≡ 48 + n → Printed p (d ∷ []) q → Printed p (numeral m n) q
 digits_one {p} {q} {m} {n} some small last put = printed_as put (rw (last, numeral_small m n some small))
+
+pub shown_one : {p q : Page} {n d : ℕ} → n < 10 → d ≡ 48 + n → Printed p (d ∷ []) q → Printed p (shown n) q
+shown_one small last put = digits_one (omega arith) small last put
 
 pub digits_more : {p q r : Page} {m n d : ℕ} → 1 ≤ m → 10 ≤ n → Printed p (numeral (m - 1) (n / 10)) q → d ≡ 48 + n % 10
     → Printed q (d ∷ []) r → Printed p (numeral m n) r

@@ -6,7 +6,7 @@ use native.Mathlib.Omega.{arith}
 use native.Mathlib.Decide.{dec_lt}
 use mathlib.Core.Path.{◌≡◌, refl, sym, ap, ◌∙◌}
 use mathlib.Core.List.{List, [], ◌∷◌, ◌++◌}
-use lib.ListN.{length, get_or, set, take, length-append, length-set}
+use lib.ListN.{length, get_or, set, take, length-append}
 use lib.Seq.{sets, length-sets, set_out, take-suc}
 use Rattle.text.specs.Joined.{joined}
 use Rattle.text.specs.Page.{overwritten}
@@ -65,19 +65,6 @@ printed_as d e = rw (← e) d
 pub printed_byte : {p q r : Page} (text : List ℕ) (i : ℕ) → Printed p (take i text) q → i < length text
     → Printed q (get_or text i 0 ∷ []) r → Printed p (take (i + 1) text) r
 printed_byte text i d h e = printed_as (d then e) (rw (add-one i) (sym (take-suc text i 0 h)))
-
--- `Page::text`: the page with the bytes and the position that it holds so far, and a byte of the text stored on it, or left out
-abbrev pub page_of : Page → List ℕ → ℕ → Page
-page_of p l at = record { bytes = record { ref_ptr = p.bytes.ref_ptr; ghost_name = p.bytes.ghost_name; now = l }; at = at }
-
-module _ {p : Page} {l : List ℕ} {at : ℕ} (text : List ℕ) (i : ℕ) (d : Printed p (take i text) (page_of p l at)) (h : i < length text) where
-  pub printed_stored : {b : ℕ} → at < length l → b ≡ get_or text i 0 → Printed p (take (i + 1) text) (page_of p (set l at b) (at + 1))
-  printed_stored {b} k e = printed_byte text i d h (rw (← e)
-      (record { same_bytes = refl; bytes = refl; size = length-set l at b; after = omega arith }))
-
-  pub printed_left : length l ≤ at → Printed p (take (i + 1) text) (page_of p l at)
-  printed_left k = printed_byte text i d h
-      (record { same_bytes = refl; bytes = sym (set_out l at (get_or text i 0) k); size = refl; after = omega arith })
 
 pub printed_next : {p q r : Page} (f : ℕ → List ℕ) (i : ℕ) → Printed p (joined i f) q → Printed q (f i) r → Printed p (joined (i + 1) f) r
 printed_next f i d e = printed_as (d then e) (joined_next i f)

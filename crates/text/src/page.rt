@@ -29,14 +29,13 @@ impl<'a> Page<'a> {
     pub fn text(&mut self, text: &[u8])
         ensures { Printed self.old text.now self.new }
     {
-        let mut at = self.at;
-        let bytes = &mut *self.bytes;
+        let mut page = Page {
+            bytes: &mut *self.bytes,
+            at: self.at,
+        };
         for byte in text {
-            if at < bytes.len() {
-                bytes[at] = *byte;
-                at += 1;
-            }
+            page.byte(*byte);
         }
-        self.at = at;
+        self.at = page.at;
     }
 }

@@ -21,19 +21,23 @@ impl Page<'_> {
         if most < 1 {
             return;
         }
-        if n < 10 {
+        if n >= 10 {
+            self.digits(most - 1, n / 10);
+            self.byte(digit(n % 10));
+        } else {
             self.byte(digit(n));
-            return;
         }
-        self.digits(most - 1, n / 10);
-        self.byte(digit(n % 10));
     }
 
     // A number of at most 5 digits.
     pub fn number(&mut self, n: u32)
         ensures { Printed self.old (shown n) self.new }
     {
-        self.digits(5, n);
+        if n < 10 {
+            self.byte(digit(n));
+        } else {
+            self.digits(5, n);
+        }
     }
 
     // A number after a space.
