@@ -11,7 +11,9 @@ pub fn copy(from: &[u16], to: &mut [u16])
     requires { length from.now ≤ length to.old }
     ensures { Walked (λ p word. get_or from.now p 0) to.old (length from.now) to.new }
 {
-    to[..from.len()].copy_from_slice(from);
+    for p in 0..from.len() {
+        to[p] = from[p];
+    }
 }
 
 // Every word 0.

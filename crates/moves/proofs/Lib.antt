@@ -1,4 +1,5 @@
 pub mod Rows
+pub mod Back
 pub mod Chosen
 pub mod Slid
 pub mod RowsUp

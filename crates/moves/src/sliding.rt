@@ -11,7 +11,9 @@ fn shift(d: usize, at: usize, end: usize, words: &mut [u16])
     requires { Movable d at end words.old }
     ensures { Moved d words.old at end words.new }
 {
-    words.copy_within(at - d..end - d, at);
+    for p in (at..end).rev() {
+        words[p] = words[p - d];
+    }
 }
 
 // Row by row, from the last: the cells that make a step.
