@@ -14,6 +14,10 @@ pub fn settle(here: Algebra, behind: Algebra, front: Front, planes: &mut [u16])
     ensures { Settled here behind front.n front.count front.head planes.old planes.new }
 {
     let Front { n, count, head } = front;
+    // Never so. A `Front` is lent in memory, where the compiler learns no bound of n, and without one each row's loop tests whether planes overlap.
+    if 32 < n {
+        return;
+    }
     let split = head.point + 1;
     let rest = Turn {
         pass: head.pass - 1,
