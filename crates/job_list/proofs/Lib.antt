@@ -4,4 +4,3 @@ pub mod Sums
 pub mod Above
 pub mod Conditions
 pub mod Plain
-pub mod Chains

@@ -6,11 +6,16 @@ ghost use Rattle.job_list.specs.inner.Parts.{any_other};
 
 use semiring::Algebra;
 
-// Whether a number names no algebra.
+// Whether a number names no algebra. Here and in the two tests like it the bits of all are taken together, with no exit at the first hit, so
+// that the walk runs on vectors.
 pub fn any_unknown(algebras: &[u16]) -> bool
     ensures { result ≡ any_unknown algebras.now }
 {
-    algebras.iter().any(|a| 2 < *a)
+    let mut found = false;
+    for number in algebras {
+        found |= 2 < *number;
+    }
+    found
 }
 
 // The algebra of job q. A number that names none is taken for 2.
@@ -25,5 +30,9 @@ pub fn algebra_of(algebras: &[u16], q: usize) -> Algebra
 pub fn any_other(number: u16, algebras: &[u16]) -> bool
     ensures { result ≡ any_other number algebras.now }
 {
-    algebras.iter().any(|a| *a != number)
+    let mut found = false;
+    for other in algebras {
+        found |= *other != number;
+    }
+    found
 }

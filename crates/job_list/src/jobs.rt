@@ -33,6 +33,7 @@ impl<'a> Jobs<'a> {
     }
 
     // The same. The words of a list of one algebra are looked at as one, which in runs of few ticks shows.
+    #[inline(always)]
     pub fn any_above(&self) -> bool
         requires { Parts self.now.algebras.now self.now.sizes.now self.now.weights.now }
         ensures { result ≡ job_above self.now.algebras.now self.now.sizes.now self.now.weights.now }

@@ -16,7 +16,11 @@ pub use jobs::Jobs;
 pub fn any_outside(order: usize, sizes: &[u16]) -> bool
     ensures { result ≡ any_outside order sizes.now }
 {
-    sizes.iter().any(|n| *n < 1 || order < usize::from(*n))
+    let mut found = false;
+    for size in sizes {
+        found |= (*size < 1) | (order < usize::from(*size));
+    }
+    found
 }
 
 // The words of the first q jobs: the sum of their sizes' squares.

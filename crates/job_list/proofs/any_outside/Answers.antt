@@ -1,11 +1,12 @@
-use Rattle.std.proofs.Common.{◌∙◌, rules, tests}
-use Rattle.std.proofs.lemmas.Iterator.{YieldsList-from_slice}
-use Rattle.std.proofs.lemmas.Iterator.Search.{any_from_yields_List}
-use Rattle.refusals.specs.Tests.{outside}
-use Rattle.job_list.proofs.Chains.{any_listed}
+use Rattle.std.proofs.Common.{rules}
+use Rattle.memory.proofs.Any.{look_begins, look_goes_on, look_ends}
 use Rattle.job_list.proofs.any_outside.Goals as goal
 
+pub loop-size-init : goal.loop-size-init
+loop-size-init c = look_begins
+
+pub loop-size-preserved : goal.loop-size-preserved
+loop-size-preserved c = look_goes_on c.loop-size.invariant (search rules) (search (rules, c.from.ensures))
+
 pub returns : goal.returns
-returns c =
-    any_from_yields_List (outside 1 c.args.order) _ _ _ c.any.ensures.ran (YieldsList-from_slice c.args.sizes.now cc) (λ x b q k. search (rules, tests))
-    ∙ any_listed (outside 1 c.args.order) c.args.sizes.now
+returns c = search look_ends
