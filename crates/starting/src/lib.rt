@@ -23,6 +23,8 @@ fn lay_out(header: Header, state: &mut [u16])
 }
 
 // A list of jobs for an array of the given order, with the number of each job's algebra. A refusal leaves the state as it was.
+// Inlined in each call from outside: at small orders one more call would show.
+#[inline(always)]
 pub fn start(
     algebras: &[u16],
     order: usize,
