@@ -6,7 +6,7 @@ ghost use Rattle.state_ticks.specs.inner.Runnable.{Runnable, RunLeft};
 
 use job_list::Jobs;
 use state_header::{Header, store_header};
-use ticks::advance;
+use ticks::{Ticks, advance};
 
 // It makes `made` ticks.
 pub fn proceed(
@@ -24,6 +24,13 @@ pub fn proceed(
     let n = usize::from(header.order);
     let from = usize::from(header.tick);
     let to = from + usize::from(made);
-    advance(n, from..to, jobs, scratch, &mut state[4..], results);
+    advance(
+        n,
+        Ticks { from, to },
+        jobs,
+        scratch,
+        &mut state[4..],
+        results,
+    );
     store_header(header.next_tick(made), state);
 }

@@ -5,4 +5,4 @@
 mod sweep;
 mod ticks;
 
-pub use ticks::advance;
+pub use ticks::{Ticks, advance};
