@@ -18,17 +18,20 @@ pub moved_back : {d at p end q : ℕ} (j : ℕ) {old l : List ℕ} → Moved d o
 moved_back {d} {p = p} {end} {q} j {old} {l} s more h room here source = record {
   size = length-set l q v ∙ s.size;
   inside = λ i u w. one i u w (ℕ_discrete i q);
-  before = λ i u. get_or-set_other l q i v 0 (λ z. omega arith) ∙ s.before i (omega arith);
+  before = λ i u. get_or-set_other l q i v 0 (λ z. omega arith) ∙ stands i (omega arith);
   after = λ i u. get_or-set_other l q i v 0 (λ z. omega arith) ∙ s.after i u;
 }
   where
     v : ℕ
     v = get_or l j 0
 
+    stands : (i : ℕ) → i < p → get_or l i 0 ≡ get_or old i 0
+    stands i h = s.before i h
+
     from : q - d ≡ j
     from = omega arith
 
     one : (i : ℕ) → p - 1 ≤ i → i < end → Dec (i ≡ q) → get_or (set l q v) i 0 ≡ get_or old (i - d) 0
     one i u w (yes z) =
-        rw (z, from) (get_or-set_same l q v 0 (omega (arith, room.within, s.size)) ∙ s.before j (omega (arith, room.some)))
+        rw (z, from) (get_or-set_same l q v 0 (omega (arith, room.within, s.size)) ∙ stands j (omega (arith, room.some)))
     one i u w (no z) = get_or-set_other l q i v 0 z ∙ s.inside i (omega arith) w

@@ -38,6 +38,9 @@ module _ {n count u v i : ℕ} {old l l₁ l₂ : List ℕ} {r : Columns} (row :
     (slid : Slid n count u old (suc i) l) (span : Spans n (live count) v r)
     (moved : Moved 1 l (n * n + i * n + r.from) (n * n + i * n + r.to) l₁)
     (lowered : Moved n l₁ (n * n + i * n + n * n + r.from) (n * n + i * n + n * n + r.to) l₂) where
+  above : (p : ℕ) → p < n * n + i * n + n * n + r.from → get_or l₂ p 0 ≡ get_or l₁ p 0
+  above p h = lowered.before p h
+
   -- what stands of the rows up to i when each plane's row is moved
   a_stands : (p : ℕ) → p < n * n + (i * n + n) → get_or l p 0 ≡ get_or old p 0
   a_stands p h = slid.a_rest p (omega arith)
@@ -64,16 +67,16 @@ module _ {n count u v i : ℕ} {old l l₁ l₂ : List ℕ} {r : Columns} (row :
     a = λ m j pass k h h' b on. at_a m j pass k h h' b on (ℕ_discrete m i);
     b = λ m j pass k h h' b on f. at_b m j pass k h h' b on f (ℕ_discrete m i);
     a_rest = λ p h.
-        lowered.before p (omega (arith, row_fits row)) ∙ moved.before p (omega arith) ∙ slid.a_rest p (omega arith);
-    b_rest = λ p h h'. lowered.before p (omega arith) ∙ b_stands p h (omega arith);
+        above p (omega (arith, row_fits row)) ∙ moved.before p (omega arith) ∙ slid.a_rest p (omega arith);
+    b_rest = λ p h h'. above p (omega arith) ∙ b_stands p h (omega arith);
   }
     where
       at_a : (m j pass k : ℕ) → i ≤ m → m < n → j < n → Phase n u m j pass k → Dec (m ≡ i)
           → get_or l₂ (A n m j) 0 ≡ taken (live count pass) 1 old (A n m j)
-      at_a m j pass k h h' b on (yes d) = rw d (lowered.before (A n i j) (omega (arith, row_fits row)) ∙ a_word j pass k b (rw d at on))
+      at_a m j pass k h h' b on (yes d) = rw d (above (A n i j) (omega (arith, row_fits row)) ∙ a_word j pass k b (rw d at on))
       at_a m j pass k h h' b on (no d) =
           let past : i < m = omega arith in
-          lowered.before (A n m j) (omega (arith, row_fits h'))
+          above (A n m j) (omega (arith, row_fits h'))
           ∙ moved.after (A n m j) (omega (arith, span.within, rows_apart n past))
           ∙ slid.a m j pass k past h' b on
 
